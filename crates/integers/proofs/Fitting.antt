@@ -1,0 +1,39 @@
+-- What an i64 holds: that a number fits, and that it is read back as it was. A local of type i64 holds bits, so a goal has
+-- `toZ w64 (ofZ w64 z)`, which `toZ-ofZ (c .fits .x)` of mir.Facts turns into z for a parameter x. Assumes nothing.
+use mathlib.Core.Path.{_≡_, _∙_}
+use Prim.Native.Nat.{ℕ, _+_, _*_, _^_, _≤_, _<_}
+use native.Mathlib.Omega.{arith}
+use native.Mathlib.Nat.{lt-of-le-of-lt, lt-of-lt-of-le, mul-le-mul-right, lt-of-mul-lt-mul-right}
+use lib.Dec.{lit≤}
+use lib.IntN.{ℤ, pos, natAbs, _+ℤ_, _*ℤ_}
+use lib.Signed.{mag, shrZ, mag-shr}
+use mir.Syntax.{w16, w64}
+use mir.Val.{Fits, SFits, toZ, ofZ}
+use mir.Facts.{toZ-ofZ, toZ-pos}
+use Rattle.integers.specs.Range.{Within}
+use Rattle.integers.proofs.Whole.{up, down, apart, size, times, floor, abs-is}
+
+-- ---- a number fits
+
+pub fits-abs : (z : ℤ) {m : ℕ} → natAbs z ≤ m → m < 2 ^ 63 → SFits w64 z
+fits-abs z h k = omega (arith, size z, abs-is z)
+
+pub fits-within : (k : ℕ) (z : ℤ) → Within k z → 2 ^ k ≤ 2 ^ 63 → SFits w64 z
+fits-within k z h l = record { sfits = lt-of-lt-of-le h l }
+
+pub fits-floor : {z : ℤ} (m : ℕ) → SFits w64 z → SFits w64 (shrZ z m)
+fits-floor {z} m h = record { sfits = lt-of-le-of-lt (mag-shr z m) (h .sfits) }
+
+-- ---- a number is read back
+
+-- a call's result, as the callee's `ensures` has it: `gave (c .f .ensures) (c .f .ok)`
+pub gave : {z s : ℤ} → z ≡ s → mag z < 2 ^ 63 → toZ w64 (ofZ w64 z) ≡ s
+gave e h = toZ-ofZ (record { sfits = h }) ∙ e
+
+-- a shift to the right
+pub floor-plain : {z : ℤ} (m : ℕ) → SFits w64 z → toZ w64 (ofZ w64 (shrZ z m)) ≡ shrZ z m
+floor-plain m h = toZ-ofZ (fits-floor m h)
+
+-- a word that was cast
+pub word-plain : {n : ℕ} → Fits w16 n → toZ w64 n ≡ pos n
+word-plain h = toZ-pos w64 (lt-of-lt-of-le (h .fits) (lit≤ tt))

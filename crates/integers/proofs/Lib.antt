@@ -1,0 +1,6 @@
+-- The laws on whole numbers, each once, for the proofs of every crate above.
+pub mod Whole
+pub mod Fitting
+pub mod Ranges
+pub mod Low
+pub mod Masks

@@ -1,0 +1,23 @@
+-- The numbers -2^k .. 2^k - 1, which are those of k + 1 bits, signed.
+use mathlib.Core.Bool.{Bool, cond, _||_}
+use Prim.Native.Nat.{ℕ, _<_, _-_, _^_}
+use lib.IntN.{ℤ, pos, negℤ}
+use lib.Signed.{mag, ltZ}
+
+unfoldable pub lowest : ℕ → ℤ
+lowest k = negℤ (pos (2 ^ k))
+
+unfoldable pub highest : ℕ → ℤ
+highest k = pos (2 ^ k - 1)
+
+-- z is none of them
+unfoldable pub outside : ℕ → ℤ → Bool
+outside k z = ltZ z (lowest k) || ltZ (highest k) z
+
+-- of z outside them, the nearer limit
+unfoldable pub nearer : ℕ → ℤ → ℤ
+nearer k z = cond (ltZ z (pos 0)) (lowest k) (highest k)
+
+-- z is one of them, as a bound of one number: `mag` is n both of n and of -(n + 1)
+abbrev pub Within : ℕ → ℤ → Type 0
+Within k z = mag z < 2 ^ k
