@@ -18,6 +18,10 @@ outside k z = ltZ z (lowest k) || ltZ (highest k) z
 unfoldable pub nearer : ℕ → ℤ → ℤ
 nearer k z = cond (ltZ z (pos 0)) (lowest k) (highest k)
 
+-- z limited to them: outside them the nearer limit
+unfoldable pub limitedTo : ℕ → ℤ → ℤ
+limitedTo k z = cond (outside k z) (nearer k z) z
+
 -- z is one of them, as a bound of one number: `mag` is n both of n and of -(n + 1)
 abbrev pub Within : ℕ → ℤ → Type 0
 Within k z = mag z < 2 ^ k

@@ -1,0 +1,100 @@
+// Limits, the value kept of an exact result, and the flags.
+use crate::mode::Mode;
+use crate::mode::Target;
+ghost use mathlib.Core.Path.{_≡_};
+ghost use Rattle.integers.specs.Bits.{lowBits, signedOf};
+ghost use Rattle.integers.specs.Range.{lowest, highest};
+ghost use Rattle.accumulator.specs.Limits.{limitBits, leftOf, keptOf, overflowOf, writeOf, isAccumulator};
+
+// An accumulator: its value and its flags O and S.
+pub struct Accumulator {
+    pub value: i64,
+    pub overflow: bool,
+    pub saturation: bool,
+}
+
+// The lower limit.
+fn lowest(mode: Mode, target: Target) -> i64
+    ensures { λ r. ⌜ r ≡ lowest (limitBits mode target) ⌝ }
+{
+    if mode.saturates(target) & !mode.accsat {
+        -0x8000_0000
+    } else {
+        -0x80_0000_0000
+    }
+}
+
+// The upper limit.
+fn highest(mode: Mode, target: Target) -> i64
+    ensures { λ r. ⌜ r ≡ highest (limitBits mode target) ⌝ }
+{
+    if mode.saturates(target) & !mode.accsat {
+        0x7fff_ffff
+    } else {
+        0x7f_ffff_ffff
+    }
+}
+
+// Whether the exact result r is outside the limits.
+pub fn left(mode: Mode, target: Target, r: i64) -> bool
+    ensures { λ b. ⌜ b ≡ leftOf mode target r ⌝ }
+{
+    (r < lowest(mode, target)) | (highest(mode, target) < r)
+}
+
+// The low 40 bits of r, read as signed.
+fn low40(r: i64) -> i64
+    ensures { λ v. ⌜ v ≡ signedOf 40 (lowBits 40 r) ⌝ }
+{
+    let low = r & 0xff_ffff_ffff;
+    if low < 0x80_0000_0000 {
+        low
+    } else {
+        low - 0x100_0000_0000
+    }
+}
+
+// The value kept of the exact result r: r itself, the nearer limit, or the low 40 bits.
+pub fn kept(mode: Mode, target: Target, r: i64) -> i64
+    ensures { λ v. ⌜ v ≡ keptOf mode target r ⌝ }
+{
+    if left(mode, target, r) {
+        if mode.saturates(target) {
+            if r < 0 {
+                lowest(mode, target)
+            } else {
+                highest(mode, target)
+            }
+        } else {
+            low40(r)
+        }
+    } else {
+        r
+    }
+}
+
+// The O flag of a kept value.
+pub fn overflow(v: i64) -> bool
+    ensures { λ b. ⌜ b ≡ overflowOf v ⌝ }
+{
+    (v < -0x8000_0000) | (0x7fff_ffff < v)
+}
+
+// The accumulator after a write of the exact result r.
+pub fn write(before: Accumulator, mode: Mode, target: Target, r: i64) -> Accumulator
+    ensures { λ a. ⌜ a ≡ writeOf before mode target r ⌝ }
+{
+    let v = kept(mode, target, r);
+    Accumulator {
+        value: v,
+        overflow: overflow(v),
+        saturation: before.saturation | left(mode, target, r),
+    }
+}
+
+// Whether v has 40 bits, as a state's accumulators must.
+pub fn is_accumulator(v: i64) -> bool
+    ensures { λ b. ⌜ b ≡ isAccumulator v ⌝ }
+{
+    !((v < -0x80_0000_0000) | (0x7f_ffff_ffff < v))
+}

@@ -1,0 +1,98 @@
+// The store of an accumulator's value as a word.
+use crate::mode::Mode;
+ghost use mathlib.Core.Path.{_≡_};
+ghost use Rattle.integers.specs.Bits.{lowBits};
+ghost use Rattle.integers.specs.Range.{limitedTo};
+ghost use Rattle.accumulator.specs.Store.{truncatedOf, oddOf, roundsUp, roundedOf, limitingOf, wordOf, storeOf};
+
+// What a store gives: the word, and whether limiting was needed.
+pub struct Stored {
+    pub word: u16,
+    pub limited: bool,
+}
+
+// The low 16 bits of v.
+fn low16(v: i64) -> u16
+    ensures { λ w. ⌜ w ≡ lowBits 16 v ⌝ }
+{
+    (v & 0xffff) as u16
+}
+
+// Whether q is odd.
+fn is_odd(q: i64) -> bool
+    ensures { λ b. ⌜ b ≡ oddOf q ⌝ }
+{
+    (q & 1) as u16 == 1
+}
+
+// Whether rounding adds 1 to the quotient q of the remainder p.
+fn rounds_up(mode: Mode, q: i64, p: u16) -> bool
+    ensures { λ b. ⌜ b ≡ roundsUp mode q p ⌝ }
+{
+    (32768 < p) | ((p == 32768) & (mode.rnd | is_odd(q)))
+}
+
+// The result of a truncated store before SATDW.
+pub fn truncated(v: i64) -> i64
+    ensures { λ q. ⌜ q ≡ truncatedOf v ⌝ }
+{
+    v >> 16
+}
+
+// The result of a rounded store before SATDW.
+pub fn rounded(mode: Mode, v: i64) -> i64
+    ensures { λ q. ⌜ q ≡ roundedOf mode v ⌝ }
+{
+    let q = v >> 16;
+    if rounds_up(mode, q, low16(v)) {
+        q + 1
+    } else {
+        q
+    }
+}
+
+// Whether limiting is needed of the result q.
+pub fn needs_limiting(q: i64) -> bool
+    ensures { λ b. ⌜ b ≡ limitingOf q ⌝ }
+{
+    (q < -32768) | (32767 < q)
+}
+
+// q limited to -32,768 .. 32,767.
+fn limited(q: i64) -> i64
+    ensures { λ r. ⌜ r ≡ limitedTo 15 q ⌝ }
+{
+    if q < -32768 {
+        -32768
+    } else if 32767 < q {
+        32767
+    } else {
+        q
+    }
+}
+
+// The word stored of the result q.
+pub fn word(mode: Mode, q: i64) -> u16
+    ensures { λ w. ⌜ w ≡ wordOf mode q ⌝ }
+{
+    if mode.satdw {
+        low16(limited(q))
+    } else {
+        low16(q)
+    }
+}
+
+// The store of v, rounded or truncated.
+pub fn store(mode: Mode, round: bool, v: i64) -> Stored
+    ensures { λ s. ⌜ s ≡ storeOf mode round v ⌝ }
+{
+    let q = if round {
+        rounded(mode, v)
+    } else {
+        truncated(v)
+    };
+    Stored {
+        word: word(mode, q),
+        limited: needs_limiting(q),
+    }
+}
