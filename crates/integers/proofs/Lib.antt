@@ -4,3 +4,4 @@ pub mod Fitting
 pub mod Ranges
 pub mod Low
 pub mod Masks
+pub mod Wrapping

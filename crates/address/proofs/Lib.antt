@@ -1,0 +1,8 @@
+-- Worked examples first, so that a wrong definition shows as a wrong number; then the laws, in the order of specs/.
+pub mod Examples
+pub mod Words
+pub mod Regions
+pub mod Steps
+pub mod Entries
+pub mod Widths
+pub mod Reversals

@@ -1,0 +1,39 @@
+-- An access has no trap exactly where its address is that of a word of the region: both directions, by the tests of the definition. Assumes nothing.
+use mathlib.Core.Path.{_≡_, refl, sym}
+use mathlib.Core.Bool.{Bool, true, false, cond, _&&_}
+use Prim.Native.Nat.{ℕ, _%_, _≤_, _<_}
+use native.Mathlib.Omega.{arith}
+use borrow.Author.Tests.{leb-true, ltb-true, eqb-false, le-leb, lt-ltb, ne-eqb}
+use lib.Dec.{leb, ltb, eqb}
+use Rattle.integers.proofs.Whole.{both}
+use Rattle.address.specs.declared.region.Region.{Region}
+use Rattle.address.specs.Word.{addressOf, wordOf}
+use Rattle.address.specs.Region.{insideOf, accessTrap}
+use Rattle.address.proofs.Words.{word-address, address-word}
+
+pub word-free : (region : Region) (i : ℕ) → region .first ≤ i → i < region .end → accessTrap region (addressOf i) ≡ 0
+unfolding accessTrap insideOf
+word-free region i h l =
+    let even : eqb (addressOf i % 2) 1 ≡ false = ne-eqb (addressOf i % 2) 1 (λ (e : addressOf i % 2 ≡ 1). omega arith) in
+    rw (even, le-leb (addressOf 0) (addressOf i) (omega arith), word-address i, le-leb (region .first) i h, lt-ltb i (region .end) l)
+
+-- a choice of numbers that is 0 tells its test
+zero-second : (t : Bool) (n : ℕ) → cond t 1 n ≡ 0 → (t ≡ false) × (n ≡ 0)
+zero-second true n e = absurd (omega arith)
+zero-second false n e = (refl, e)
+
+zero-first : (t : Bool) → _≡_ {A = ℕ} (cond t 0 2) 0 → t ≡ true
+zero-first true e = refl
+zero-first false e = absurd (omega arith)
+
+pub free-word :
+    (region : Region) (a : ℕ) → accessTrap region a ≡ 0
+    → (a ≡ addressOf (wordOf a)) × (region .first ≤ wordOf a) × (wordOf a < region .end)
+unfolding accessTrap insideOf
+free-word region a e =
+    let t = zero-second (eqb (a % 2) 1) (cond (insideOf region a) 0 2) e in
+    let even : a % 2 ≡ 0 = omega (arith, eqb-false (a % 2) 1 (t .0)) in
+    let i = wordOf a in
+    let inside = both (leb (addressOf 0) a) (leb (region .first) i && ltb i (region .end)) (zero-first (insideOf region a) (t .1)) in
+    let part = both (leb (region .first) i) (ltb i (region .end)) (inside .1) in
+    (sym (address-word a (leb-true (addressOf 0) a (inside .0)) even), leb-true (region .first) i (part .0), ltb-true i (region .end) (part .1))

@@ -1,0 +1,96 @@
+-- `step::circular` meets its contract: each return is the case of the definition that its tests lead to. Assumes nothing.
+use mathlib.Core.Path.{ap, _∙_}
+use borrow.Author.Needs.{needs}
+use lib.IntN.{ℤ, pos, _+ℤ_}
+use mir.Facts.{toZ-ofZ}
+use Rattle.integers.proofs.Fitting.{gave}
+use Rattle.address.proofs.Steps.{Known, ordered, sum-small, less-bytes-fits, more-bytes-fits, above, below, between, elsewhere}
+use Rattle.address.proofs.step.circular.Statement.{statement}
+use Rattle.address.proofs.step.circular.Tie as tie
+use Rattle.address.proofs.step.circular.Reads as reads
+use Rattle.address.proofs.step.circular.Lts as lts
+use Rattle.address.proofs.step.low_word.Reads as low-word-reads
+use Rattle.address.proofs.step.size.Reads as size-reads
+use Rattle.address.proofs.step.stepped.Reads as stepped-reads
+use Rattle.address.proofs.step.unreduced.Reads as unreduced-reads
+
+-- the point after the call of `unreduced`, and the function's entry
+abbrev claims : lts.Claims
+claims = (
+  size-reads.Asked,
+  size-reads.Learnt,
+  unreduced-reads.Asked,
+  unreduced-reads.Learnt,
+  low-word-reads.Asked,
+  low-word-reads.Learnt,
+  stepped-reads.Asked,
+  stepped-reads.Learnt,
+)
+
+abbrev Unreduced : Type 0
+Unreduced = lts.After-unreduced claims reads.Pre reads.Post
+
+abbrev start : Unreduced → lts.Start claims reads.Pre reads.Post
+start c = c .before .before .before .before .before
+
+known :
+    (c : Unreduced)
+    → Known (start c .args .buffer) (start c .args .old .0) (start c .args .step) (c .before .size .result) (c .unreduced .result)
+known c =
+    let a = start c .args in
+    let fits = start c .fits .step in
+    record {
+      within = c .before .before .if1 .taken;
+      start = search needs;
+      last = search needs;
+      small = sum-small (search needs) fits;
+      bytes-is = gave (c .before .size .ensures) (c .before .size .ok);
+      to-is = gave (c .unreduced .ensures ∙ ap (λ (z : ℤ). pos (a .old .0) +ℤ z) (toZ-ofZ fits)) (c .unreduced .ok);
+    }
+
+size-requires : tie.Need-size-requires
+size-requires c κs =
+    let a = c .before .before .before .args in
+    ordered (a .buffer .start .0) (a .buffer .last .0) (a .old .0) (c .if1 .taken)
+
+sub-low-word : tie.Need-sub-low-word
+sub-low-word c = less-bytes-fits (known (c .before))
+
+add-low-word : tie.Need-add-low-word
+add-low-word c = more-bytes-fits (known (c .before .before))
+
+returns : tie.Need-returns
+returns c = c .low-word .ensures ∙ above (known (c .before .before)) (c .before .if2 .taken)
+
+returns-2 : tie.Need-returns-2
+returns-2 c = c .low-word2 .ensures ∙ below (known (c .before .before .before)) (c .before .before .if2 .left) (c .before .if3 .taken)
+
+returns-3 : tie.Need-returns-3
+returns-3 c =
+    let u = c .before .before .before in
+    c .stepped .ensures ∙ rw (toZ-ofZ (start u .fits .step)) (between (known u) (c .before .before .if2 .left) (c .before .if3 .left))
+
+returns-4 : tie.Need-returns-4
+returns-4 c =
+    let start = c .before .before .before .before in
+    let a = start .args in
+    c .stepped2 .ensures ∙ rw (toZ-ofZ (start .fits .step)) (elsewhere (a .buffer) (a .old .0) (a .step) (c .before .if1 .left))
+
+pub circular-spec : {M : Type 1} → statement M
+circular-spec =
+    tie.close
+    (tie.spec
+    size-requires
+    (λ c κs. tt)
+    (λ c. search needs)
+    sub-low-word
+    (λ c κs. tt)
+    (λ c. search needs)
+    add-low-word
+    (λ c κs. tt)
+    (λ c κs. tt)
+    (λ c κs. tt)
+    returns
+    returns-2
+    returns-3
+    returns-4)

@@ -1,0 +1,17 @@
+-- `ByteAddress::word` meets its contract: below word 0 the difference is 0. By arithmetic. Assumes nothing.
+use borrow.Author.Needs.{needs}
+use native.Mathlib.Omega.{arith}
+use Rattle.address.specs.Word.{wordOf}
+use Rattle.address.proofs.word.ByteAddress.word.Statement.{statement}
+use Rattle.address.proofs.word.ByteAddress.word.Tie as tie
+
+returns : tie.Need-returns
+unfolding wordOf
+returns c = omega arith
+
+returns-2 : tie.Need-returns-2
+unfolding wordOf
+returns-2 c = omega arith
+
+pub word-spec : {M : Type 1} → statement M
+word-spec = tie.close (tie.spec (λ c. search needs) returns returns-2)

@@ -1,0 +1,26 @@
+-- Regions of memory, and traps 1 and 2.
+use mathlib.Core.Bool.{Bool, cond, _&&_}
+use Prim.Native.Nat.{ℕ, _%_}
+use lib.Dec.{leb, ltb, eqb}
+use Rattle.address.specs.Word.{addressOf, wordOf}
+use Rattle.address.specs.declared.region.Region.{Region}
+
+-- X reads must fall in the first part, x words
+abbrev pub xPart : ℕ → Region
+xPart x = record { first = 0; end = x }
+
+-- Y reads in the rest
+abbrev pub yPart : ℕ → ℕ → Region
+yPart x words = record { first = x; end = words }
+
+-- others anywhere in memory
+abbrev pub allWords : ℕ → Region
+allWords words = record { first = 0; end = words }
+
+-- address a lies in one of the words first .. end - 1
+unfoldable pub insideOf : Region → ℕ → Bool
+insideOf region a = leb (addressOf 0) a && (leb (region .first) (wordOf a) && ltb (wordOf a) (region .end))
+
+-- traps, first that applies: 1 odd address, 2 outside its region; 0 none
+unfoldable pub accessTrap : Region → ℕ → ℕ
+accessTrap region a = cond (eqb (a % 2) 1) 1 (cond (insideOf region a) 0 2)

@@ -1,0 +1,66 @@
+// Regions of memory, and the trap of an access outside its region or at an odd address.
+use crate::word::ByteAddress;
+use crate::word::MEMORY_START;
+ghost use mathlib.Core.Path.{_≡_};
+ghost use Rattle.address.specs.Region.{xPart, yPart, allWords, insideOf, accessTrap};
+
+// The words first .. end - 1.
+pub struct Region {
+    pub first: usize,
+    pub end: usize,
+}
+
+impl Region {
+    // The words of X reads: the first x.
+    pub fn x_part(x: usize) -> Region
+        ensures { λ r. ⌜ r ≡ xPart x ⌝ }
+    {
+        Region { first: 0, end: x }
+    }
+
+    // The words of Y reads: the rest.
+    pub fn y_part(x: usize, words: usize) -> Region
+        ensures { λ r. ⌜ r ≡ yPart x words ⌝ }
+    {
+        Region {
+            first: x,
+            end: words,
+        }
+    }
+
+    // The words of all other accesses.
+    pub fn all(words: usize) -> Region
+        ensures { λ r. ⌜ r ≡ allWords words ⌝ }
+    {
+        Region {
+            first: 0,
+            end: words,
+        }
+    }
+}
+
+// Whether a lies in a word of the region.
+pub fn inside(region: Region, a: ByteAddress) -> bool
+    ensures { λ r. ⌜ r ≡ insideOf region (a .0) ⌝ }
+{
+    let first = region.first;
+    let end = region.end;
+    let at = a.0;
+    let i = a.word();
+    let w = i.0;
+    (MEMORY_START <= at) & ((first <= w) & (w < end))
+}
+
+// The trap of an access at a: 1 odd address, 2 outside its region, 0 none.
+pub fn trap(region: Region, a: ByteAddress) -> u8
+    ensures { λ r. ⌜ r ≡ accessTrap region (a .0) ⌝ }
+{
+    let at = a.0;
+    if at % 2 == 1 {
+        1
+    } else if inside(region, a) {
+        0
+    } else {
+        2
+    }
+}

@@ -1,0 +1,84 @@
+// Address sums and stepped addresses: plain, and in a circular buffer.
+use crate::word::ByteAddress;
+ghost use mathlib.Core.Path.{_≡_};
+ghost use Prim.Native.Nat.{_+_, _-_, _≤_};
+ghost use lib.IntN.{pos, _+ℤ_};
+ghost use Rattle.integers.specs.Bits.{lowBits};
+ghost use Rattle.address.specs.Step.{sumOf, steppedOf, circularOf};
+
+// A circular buffer: its first and its last byte, the paper's S and E.
+pub struct Buffer {
+    pub start: ByteAddress,
+    pub last: ByteAddress,
+}
+
+// The sum of an address and a register, W9 + W12 or W11 + W13.
+pub fn sum(a: ByteAddress, w: u16) -> ByteAddress
+    ensures { λ r. ⌜ r .0 ≡ sumOf (a .0) w ⌝ }
+{
+    let at = a.0;
+    ByteAddress(std::num::wrapping_add_u16(at, w))
+}
+
+// A step, as a number of 64 bits.
+fn wide(step: i16) -> i64
+    ensures { λ r. ⌜ r ≡ step ⌝ }
+{
+    step as i64
+}
+
+// The low 16 bits of v.
+fn low_word(v: i64) -> u16
+    ensures { λ r. ⌜ r ≡ lowBits 16 v ⌝ }
+{
+    (v & 0xffff) as u16
+}
+
+// An address stepped with no correction.
+pub fn stepped(a: ByteAddress, step: i16) -> ByteAddress
+    ensures { λ r. ⌜ r .0 ≡ steppedOf (a .0) step ⌝ }
+{
+    let at = a.0;
+    let by = low_word(wide(step));
+    ByteAddress(std::num::wrapping_add_u16(at, by))
+}
+
+// An address stepped, not reduced to 16 bits.
+fn unreduced(at: u16, step: i16) -> i64
+    ensures { λ r. ⌜ r ≡ pos at +ℤ step ⌝ }
+{
+    let to = at as i64 + wide(step);
+    to
+}
+
+// The bytes of the buffer S..E: E - S + 1.
+fn size(s: u16, e: u16) -> i64
+    requires { ⌜ s ≤ e ⌝ }
+    ensures { λ r. ⌜ r ≡ pos (e - s + 1) ⌝ }
+{
+    (e - s) as i64 + 1
+}
+
+// An address stepped in a circular buffer: the unreduced sum is corrected once, and only then reduced to 16 bits.
+pub fn circular(buffer: Buffer, old: ByteAddress, step: i16) -> ByteAddress
+    ensures { λ r. ⌜ r .0 ≡ circularOf buffer (old .0) step ⌝ }
+{
+    let start = buffer.start;
+    let last = buffer.last;
+    let s = start.0;
+    let e = last.0;
+    let at = old.0;
+    if (s <= at) & (at <= e) {
+        let bytes = size(s, e);
+        let to = unreduced(at, step);
+        if (e as i64) < to {
+            ByteAddress(low_word(to - bytes))
+        } else if to < s as i64 {
+            ByteAddress(low_word(to + bytes))
+        } else {
+            stepped(old, step)
+        }
+    } else {
+        stepped(old, step)
+    }
+}

@@ -1,0 +1,2 @@
+-- What the proofs of the demonstration share.
+pub mod Drawn

@@ -1,0 +1,106 @@
+// The rows of document 01's table that the accumulator rules and the addresses hold.
+use crate::print;
+use accumulator::limit;
+use accumulator::limit::Accumulator;
+use accumulator::mode::Mode;
+use accumulator::mode::Target;
+use accumulator::product;
+use accumulator::product::Factor;
+use accumulator::shift;
+use accumulator::store;
+use address::reversal;
+use address::step;
+use address::step::Buffer;
+use address::word::ByteAddress;
+
+fn line(name: &[u8]) {
+    print::text(b"\n");
+    print::text(name);
+}
+
+fn factor(word: u16, unsigned: bool) -> Factor {
+    Factor { word, unsigned }
+}
+
+fn print_products() {
+    let reset = Mode::of(Mode::RESET);
+    print::text(b"A ");
+    print::signed(product::product(reset.integer, factor(3, false), factor(0xfffe, false)));
+    line(b"B ");
+    print::signed(product::square(false, factor(0x8000, false)));
+    print_written(0x0080, 0x8000_0000);
+    print_written(0x0000, 0x8000_0000);
+    line(b"C ");
+    print::signed(product::square(true, factor(0xffff, true)));
+}
+
+// A after r is written by a mode word, both its flags clear before.
+fn print_written(mode: u16, r: i64) {
+    let before = Accumulator {
+        value: 0,
+        overflow: false,
+        saturation: false,
+    };
+    print::accumulator(limit::write(before, Mode::of(mode), Target::A, r));
+}
+
+// The rounded store of v by a mode word.
+fn print_rounded(mode: u16, v: i64) {
+    let stored = store::store(Mode::of(mode), true, v);
+    print::text(b" ");
+    print::hex(stored.word);
+}
+
+fn print_stores() {
+    line(b"D");
+    print_rounded(0x0020, 98304);
+    print_rounded(0x0020, 32768);
+    print_rounded(0x0020, -32768);
+    print_rounded(0x0022, 32768);
+    line(b"E");
+    print_rounded(0x0020, 2147450880);
+    print_rounded(0x0000, 2147450880);
+    line(b"F");
+    print_written(0x0090, 0x80_0000_0000);
+    print_written(0x0000, 0x80_0000_0000);
+}
+
+fn print_shift(n: i64) {
+    if shift::is_allowed(n) {
+        if limit::is_accumulator(-1) {
+            print::text(b" ");
+            print::signed(shift::shift(-1, n));
+        }
+    } else {
+        print::text(b" trap3");
+    }
+}
+
+fn print_address(a: ByteAddress) {
+    print::text(b" ");
+    print::hex(a.0);
+}
+
+fn print_addresses() {
+    let buffer = Buffer {
+        start: ByteAddress(0x1100),
+        last: ByteAddress(0x1107),
+    };
+    line(b"G");
+    print_address(step::circular(buffer, ByteAddress(0x1106), 4));
+    let table = reversal::reversals();
+    line(b"H");
+    let second = reversal::next(&table, 8, ByteAddress(0x1200));
+    print_address(second);
+    print_address(reversal::next(&table, 8, second));
+}
+
+pub fn print_rows() {
+    print_products();
+    print_stores();
+    print_addresses();
+    line(b"L");
+    print_shift(16);
+    print_shift(17);
+    print::text(b"\n");
+}
