@@ -1,13 +1,12 @@
--- The reversal: its table at every place and every shorter width, its bits, and the next address in the paper's words. By induction over the width.
--- Assumes nothing.
+-- The reversal: its table at every entry and every shorter width, its bits, the next address: by induction over the width. Assumes nothing.
 use mathlib.Core.Path.{_≡_, refl, sym, ap, _∙_}
 use mathlib.Core.Bool.{Bool, true, false}
 use Prim.Native.Nat.{ℕ, zero, suc, _+_, _*_, _-_, _/_, _%_, _^_, _≤_, _<_}
 use native.Mathlib.Nat.{mod-lt, mod-le, div-add-mod', div-lt-iff-lt-mul, pow-succ', pow-suc}
 use native.Mathlib.Nat.{suc-add, zero-add, add-sub-of-le, add-mul, mul-assoc, mul-le-mul-right}
 use native.Mathlib.Omega.{arith}
-use borrow.Author.Tests.{ltb-true, ltb-false}
-use lib.Dec.{ltb, lit<}
+use borrow.Author.Tests.{ltb-true, ltb-false, eqb-true, not-false}
+use lib.Dec.{eqb, ltb, lit<}
 use lib.ListN.{getD}
 use lib.Bits.{bitAnd, and-mask}
 use lib.Pow.{pow-pos, pow-add, shl-shr, high, low, field, shr-shr, mod-mod-pow}
@@ -129,3 +128,10 @@ pub next-is :
     nextOf n a ≡ a - 2 * j + 2 * k)
 unfolding nextOf nextIndex indexOf
 next-is n a h = rw (width-power n h)
+
+-- and of any other N the address stays
+pub next-stays : (n a : ℕ) → powerOf n ≡ false → nextOf n a ≡ a
+unfolding nextOf nextIndex indexOf rev powerOf
+next-stays n a h =
+    let none : widthOf n ≡ 0 = eqb-true (widthOf n) 0 (not-false (eqb (widthOf n) 0) h) in
+    rw none (omega arith)

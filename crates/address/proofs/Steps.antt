@@ -1,23 +1,21 @@
--- Sums and steps: each is an address of 16 bits. The circular step: the case of its definition that the code's tests lead to, and that the code's
--- i64 sums fit. Assumes nothing.
+-- Sums and steps have 16 bits, the circular step takes the cases of its definition, and its i64 sums fit: by arithmetic. Assumes nothing.
 use mathlib.Core.Path.{_≡_, sym, _∙_}
 use mathlib.Core.Bool.{true, false}
-use Prim.Native.Nat.{ℕ, _+_, _-_, _^_, _≤_, _<_}
+use Prim.Native.Nat.{ℕ, _+_, _^_, _<_}
 use native.Mathlib.Nat.{mod-lt}
 use native.Mathlib.Omega.{arith}
-use borrow.Author.Tests.{leb-true}
-use lib.Dec.{leb, lit<}
+use lib.Dec.{lit<}
 use lib.IntN.{ℤ, pos, _+ℤ_, _-ℤ_}
 use lib.Signed.{ltZ, mag}
 use mir.Syntax.{w16, w64}
 use mir.Val.{Fits, SFits, toZ, ofZ}
 use mir.Facts.{toZ-ofZ}
 use Rattle.integers.specs.Bits.{lowBits}
-use Rattle.integers.proofs.Whole.{whole, size, sum, less, both}
+use Rattle.integers.proofs.Whole.{whole, size, sum, less}
 use Rattle.integers.proofs.Fitting.{word-plain}
 use Rattle.integers.proofs.Low.{low-size}
 use Rattle.address.specs.declared.step.Buffer.{Buffer}
-use Rattle.address.specs.Step.{sumOf, steppedOf, withinOf, correctedOf, circularOf}
+use Rattle.address.specs.Step.{sumOf, steppedOf, withinOf, sizeOf, correctedOf, circularOf}
 
 -- ---- addresses of 16 bits
 
@@ -35,11 +33,6 @@ circular-below buffer old step = low-size 16 _
 
 -- ---- sums that fit
 
-pub ordered : (s e a : ℕ) → withinOf s e a ≡ true → s ≤ e
-ordered s e a t =
-    let h = both (leb s a) (leb a e) t in
-    omega (arith, leb-true s a (h .0), leb-true a e (h .1))
-
 module _ {a : ℕ} {step : ℤ} (h : Fits w16 a) (l : SFits w16 step) where
   pub sum-small : mag (pos a +ℤ step) < 2 ^ 17
   sum-small = omega (whole, size (pos a +ℤ step), sum (pos a) step, size step, h .fits, l .sfits)
@@ -47,11 +40,21 @@ module _ {a : ℕ} {step : ℤ} (h : Fits w16 a) (l : SFits w16 step) where
   pub sum-fits : SFits w64 (pos a +ℤ step)
   sum-fits = omega (arith, sum-small)
 
-less-fits : (to : ℤ) (n : ℕ) → mag to < 2 ^ 17 → n ≤ 2 ^ 16 → SFits w64 (to -ℤ pos n)
-less-fits to n h l = omega (whole, size (to -ℤ pos n), less to (pos n), size to)
+module _ {s e : ℕ} (h : Fits w16 s) (l : Fits w16 e) where
+  pub apart-fits : SFits w64 (pos e -ℤ pos s)
+  apart-fits = omega (whole, size (pos e -ℤ pos s), less (pos e) (pos s), h .fits, l .fits)
 
-more-fits : (to : ℤ) (n : ℕ) → mag to < 2 ^ 17 → n ≤ 2 ^ 16 → SFits w64 (to +ℤ pos n)
-more-fits to n h l = omega (whole, size (to +ℤ pos n), sum to (pos n), size to)
+  pub size-small : mag (sizeOf s e) < 2 ^ 17
+  size-small = omega (whole, size (sizeOf s e), sum (pos e -ℤ pos s) (pos 1), less (pos e) (pos s), h .fits, l .fits)
+
+  pub size-fits : SFits w64 (sizeOf s e)
+  size-fits = omega (arith, size-small)
+
+less-fits : (to n : ℤ) → mag to < 2 ^ 17 → mag n < 2 ^ 17 → SFits w64 (to -ℤ n)
+less-fits to n h l = omega (whole, size (to -ℤ n), less to n, size to, size n)
+
+more-fits : (to n : ℤ) → mag to < 2 ^ 17 → mag n < 2 ^ 17 → SFits w64 (to +ℤ n)
+more-fits to n h l = omega (whole, size (to +ℤ n), sum to n, size to, size n)
 
 -- ---- the cases
 
@@ -61,24 +64,21 @@ pub elsewhere :
 unfolding circularOf steppedOf
 elsewhere buffer old step h = rw h
 
--- what the code knows where the old address is within: its locals `bytes` and `to` are E - S + 1 and the unreduced sum
+-- what the code knows where the old address is within: its locals `bytes` and `to` are E − S + 1 and the unreduced sum
 pub record Known (buffer : Buffer) (old : ℕ) (step bytes to : ℤ) : Type 0 where
   pub within : withinOf (buffer .start .0) (buffer .last .0) old ≡ true
   pub start : Fits w16 (buffer .start .0)
   pub last : Fits w16 (buffer .last .0)
   pub small : mag (pos old +ℤ step) < 2 ^ 17
-  pub bytes-is : toZ w64 (ofZ w64 bytes) ≡ pos (buffer .last .0 - buffer .start .0 + 1)
+  pub bytes-is : toZ w64 (ofZ w64 bytes) ≡ sizeOf (buffer .start .0) (buffer .last .0)
   pub to-is : toZ w64 (ofZ w64 to) ≡ pos old +ℤ step
 
 module _ {buffer : Buffer} {old : ℕ} {step bytes to : ℤ} (k : Known buffer old step bytes to) where
-  few : buffer .last .0 - buffer .start .0 + 1 ≤ 2 ^ 16
-  few = omega (arith, k .last .fits)
-
   pub less-bytes-fits : SFits w64 (toZ w64 (ofZ w64 to) -ℤ toZ w64 (ofZ w64 bytes))
-  less-bytes-fits = rw (k .to-is, k .bytes-is) (less-fits (pos old +ℤ step) (buffer .last .0 - buffer .start .0 + 1) (k .small) few)
+  less-bytes-fits = rw (k .to-is, k .bytes-is) (less-fits (pos old +ℤ step) (sizeOf (buffer .start .0) (buffer .last .0)) (k .small) (size-small (k .start) (k .last)))
 
   pub more-bytes-fits : SFits w64 (toZ w64 (ofZ w64 to) +ℤ toZ w64 (ofZ w64 bytes))
-  more-bytes-fits = rw (k .to-is, k .bytes-is) (more-fits (pos old +ℤ step) (buffer .last .0 - buffer .start .0 + 1) (k .small) few)
+  more-bytes-fits = rw (k .to-is, k .bytes-is) (more-fits (pos old +ℤ step) (sizeOf (buffer .start .0) (buffer .last .0)) (k .small) (size-small (k .start) (k .last)))
 
   -- the code's tests are the definition's
   last-test : ltZ (toZ w64 (buffer .last .0)) (toZ w64 (ofZ w64 to)) ≡ ltZ (pos (buffer .last .0)) (pos old +ℤ step)

@@ -1,6 +1,6 @@
 -- Address sums end at 16 bits: registers that are added, plain steps, and steps in a circular buffer.
 use mathlib.Core.Bool.{Bool, cond, _&&_}
-use Prim.Native.Nat.{ℕ, _+_, _-_, _%_, _^_}
+use Prim.Native.Nat.{ℕ, _+_, _%_, _^_}
 use lib.Dec.{leb}
 use lib.IntN.{ℤ, pos, _+ℤ_, _-ℤ_}
 use lib.Signed.{ltZ}
@@ -19,11 +19,15 @@ steppedOf a step = lowBits 16 (pos a +ℤ step)
 abbrev pub withinOf : ℕ → ℕ → ℕ → Bool
 withinOf s e a = leb s a && leb a e
 
+-- E − S + 1
+abbrev pub sizeOf : ℕ → ℕ → ℤ
+sizeOf s e = pos e -ℤ pos s +ℤ pos 1
+
 -- a stepped address above E loses E − S + 1, below S gains it
 unfoldable pub correctedOf : ℕ → ℕ → ℤ → ℤ
 correctedOf s e to =
-    cond (ltZ (pos e) to) (to -ℤ pos (e - s + 1))
-    (cond (ltZ to (pos s)) (to +ℤ pos (e - s + 1))
+    cond (ltZ (pos e) to) (to -ℤ sizeOf s e)
+    (cond (ltZ to (pos s)) (to +ℤ sizeOf s e)
     to)
 
 -- circular buffer S..E (E its last byte): if the old address is within, the stepped address is corrected, before reduction to 16 bits

@@ -1,10 +1,9 @@
 // Address sums and stepped addresses: plain, and in a circular buffer.
 use crate::word::ByteAddress;
 ghost use mathlib.Core.Path.{_≡_};
-ghost use Prim.Native.Nat.{_+_, _-_, _≤_};
 ghost use lib.IntN.{pos, _+ℤ_};
 ghost use Rattle.integers.specs.Bits.{lowBits};
-ghost use Rattle.address.specs.Step.{sumOf, steppedOf, circularOf};
+ghost use Rattle.address.specs.Step.{sumOf, steppedOf, sizeOf, circularOf};
 
 // A circular buffer: its first and its last byte, the paper's S and E.
 pub struct Buffer {
@@ -51,12 +50,12 @@ fn unreduced(at: u16, step: i16) -> i64
     to
 }
 
-// The bytes of the buffer S..E: E - S + 1.
+// The bytes of the buffer S..E.
 fn size(s: u16, e: u16) -> i64
-    requires { ⌜ s ≤ e ⌝ }
-    ensures { λ r. ⌜ r ≡ pos (e - s + 1) ⌝ }
+    ensures { λ r. ⌜ r ≡ sizeOf s e ⌝ }
 {
-    (e - s) as i64 + 1
+    let apart = e as i64 - s as i64;
+    apart + 1
 }
 
 // An address stepped in a circular buffer: the unreduced sum is corrected once, and only then reduced to 16 bits.

@@ -1,5 +1,4 @@
--- `reversal::next` meets its contract: its parts are those of the definition, 2j is at most the address, and the next address is one of 16 bits.
--- Assumes nothing.
+-- `reversal::next` meets its contract: its parts are the definition's, 2j is at most the address, and the result has 16 bits. Assumes nothing.
 use Prim.Native.Nat.{_^_, _≤_, _<_}
 use native.Mathlib.Omega.{arith}
 use borrow.Author.Needs.{needs}

@@ -4,7 +4,7 @@ use borrow.Author.Needs.{needs}
 use lib.IntN.{ℤ, pos, _+ℤ_}
 use mir.Facts.{toZ-ofZ}
 use Rattle.integers.proofs.Fitting.{gave}
-use Rattle.address.proofs.Steps.{Known, ordered, sum-small, less-bytes-fits, more-bytes-fits, above, below, between, elsewhere}
+use Rattle.address.proofs.Steps.{Known, sum-small, less-bytes-fits, more-bytes-fits, above, below, between, elsewhere}
 use Rattle.address.proofs.step.circular.Statement.{statement}
 use Rattle.address.proofs.step.circular.Tie as tie
 use Rattle.address.proofs.step.circular.Reads as reads
@@ -48,11 +48,6 @@ known c =
       to-is = gave (c .unreduced .ensures ∙ ap (λ (z : ℤ). pos (a .old .0) +ℤ z) (toZ-ofZ fits)) (c .unreduced .ok);
     }
 
-size-requires : tie.Need-size-requires
-size-requires c κs =
-    let a = c .before .before .before .args in
-    ordered (a .buffer .start .0) (a .buffer .last .0) (a .old .0) (c .if1 .taken)
-
 sub-low-word : tie.Need-sub-low-word
 sub-low-word c = less-bytes-fits (known (c .before))
 
@@ -80,7 +75,7 @@ pub circular-spec : {M : Type 1} → statement M
 circular-spec =
     tie.close
     (tie.spec
-    size-requires
+    (λ c κs. tt)
     (λ c κs. tt)
     (λ c. search needs)
     sub-low-word

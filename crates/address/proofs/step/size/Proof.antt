@@ -1,25 +1,30 @@
 -- `step::size` meets its contract: the difference of two words, and 1 more, fits an i64. Assumes nothing.
-use Prim.Native.Nat.{_+_, _-_}
-use native.Mathlib.Omega.{arith}
 use borrow.Author.Needs.{needs}
-use lib.IntN.{pos}
-use mir.Syntax.{w16, w64}
-use mir.Val.{Fits, SFits}
+use mir.Syntax.{w16}
+use mir.Val.{Fits}
 use mir.Facts.{toZ-ofZ}
 use Rattle.integers.proofs.Fitting.{word-plain}
+use Rattle.address.proofs.Steps.{apart-fits, size-fits}
 use Rattle.address.proofs.step.size.Statement.{statement}
 use Rattle.address.proofs.step.size.Tie as tie
 
+sub-apart : tie.Need-sub-apart
+sub-apart c =
+    let s : Fits w16 (c .args .s) = search needs in
+    let e : Fits w16 (c .args .e) = search needs in
+    rw (word-plain s, word-plain e) (apart-fits s e)
+
 add-result : tie.Need-add-result
 add-result c =
-    let n : Fits w16 (c .args .e - c .args .s) = omega arith in
-    rw (word-plain n) (omega arith)
+    let s : Fits w16 (c .args .s) = search needs in
+    let e : Fits w16 (c .args .e) = search needs in
+    rw (word-plain s, word-plain e, toZ-ofZ (apart-fits s e)) (size-fits s e)
 
 returns : tie.Need-returns
 returns c =
-    let n : Fits w16 (c .args .e - c .args .s) = omega arith in
-    let fits : SFits w64 (pos (c .args .e - c .args .s + 1)) = omega arith in
-    rw (word-plain n) (toZ-ofZ fits)
+    let s : Fits w16 (c .args .s) = search needs in
+    let e : Fits w16 (c .args .e) = search needs in
+    rw (word-plain s, word-plain e, toZ-ofZ (apart-fits s e)) (toZ-ofZ (size-fits s e))
 
 pub size-spec : {M : Type 1} → statement M
-size-spec = tie.close (tie.spec (λ c. search needs) (λ c. search needs) add-result returns)
+size-spec = tie.close (tie.spec (λ c. search needs) (λ c. search needs) sub-apart add-result returns)
