@@ -1,0 +1,9 @@
+//! Reads a case stream on standard input and prints a line for each case.
+
+use std::io::{self, BufReader, BufWriter};
+
+fn main() -> io::Result<()> {
+    let input = BufReader::new(io::stdin().lock());
+    let output = BufWriter::new(io::stdout().lock());
+    simulator::cases::print_lines(input, output)
+}

@@ -1,0 +1,261 @@
+//! The case stream of CASES.md: parse, carry out, print.
+
+use std::fmt::Write as _;
+use std::io::{self, Read, Write};
+
+use crate::engine::{run, Outcome};
+use crate::file::{load, write};
+use crate::flow::{Flow, Loop};
+use crate::mode::Mode;
+use crate::settings::{BitReversed, Circular, Settings};
+use crate::state::State;
+use crate::status::status_word;
+use crate::words::word_at;
+
+pub const HEADER: usize = 112;
+const MOST_BYTES: u32 = 65_536;
+const MOST_WORDS: u32 = 32_768;
+
+#[derive(Clone, Copy, Debug, PartialEq, Eq)]
+pub enum What {
+    Run,
+    Load,
+    Write,
+}
+
+/// One case of a stream.
+#[derive(Clone, Debug, PartialEq, Eq)]
+pub struct Case {
+    pub what: What,
+    /// The program file, or the operations of `Write`.
+    pub file: Vec<u8>,
+    pub memory: Vec<u16>,
+    /// The budget, or R, the bytes of lent output.
+    pub budget: u32,
+    pub settings: Settings,
+    pub state: State,
+}
+
+/// Why no case came.
+#[derive(Clone, Copy, Debug, PartialEq, Eq)]
+pub enum NoCase {
+    End,
+    Short,
+    TooLarge,
+}
+
+fn long_at(bytes: &[u8], at: usize) -> u32 {
+    u32::from(word_at(bytes, at)) | u32::from(word_at(bytes, at + 2)) << 16
+}
+
+fn number_at(bytes: &[u8], at: usize) -> i64 {
+    let bits = u64::from(long_at(bytes, at)) | u64::from(long_at(bytes, at + 4)) << 32;
+    bits as i64
+}
+
+fn circular_at(header: &[u8], at: usize) -> Circular {
+    Circular {
+        register: header[at],
+        start: word_at(header, at + 2),
+        end: word_at(header, at + 4),
+    }
+}
+
+fn settings_of(header: &[u8]) -> Settings {
+    Settings {
+        x_words: word_at(header, 12),
+        trap_word: word_at(header, 14),
+        x: circular_at(header, 16),
+        y: circular_at(header, 22),
+        reversed: BitReversed {
+            register: header[28],
+            words: word_at(header, 30),
+        },
+    }
+}
+
+fn state_of(header: &[u8]) -> State {
+    let flag = |number: u32| (header[110] >> number) & 1 == 1;
+    State {
+        w: std::array::from_fn(|i| word_at(header, 32 + 2 * i)),
+        accumulators: [number_at(header, 60), number_at(header, 68)],
+        overflow: [flag(0), flag(1)],
+        saturated: [flag(2), flag(3)],
+        mode: Mode(word_at(header, 108)),
+        flow: Flow {
+            pc: word_at(header, 76),
+            active: header[78],
+            loops: std::array::from_fn(|i| Loop {
+                do_number: word_at(header, 80 + 2 * i),
+                passes: long_at(header, 88 + 4 * i),
+            }),
+            repeat: long_at(header, 104),
+        },
+    }
+}
+
+/// Up to `length` bytes, fewer at the end of the input.
+fn take(input: &mut impl Read, length: usize) -> io::Result<Vec<u8>> {
+    let mut bytes = Vec::new();
+    input.take(length as u64).read_to_end(&mut bytes)?;
+    Ok(bytes)
+}
+
+/// The next case. Sizes are judged as soon as the header is there.
+pub fn next_case(input: &mut impl Read) -> io::Result<Result<Case, NoCase>> {
+    let header = take(input, HEADER)?;
+    if header.is_empty() {
+        return Ok(Err(NoCase::End));
+    }
+    if header.len() < HEADER {
+        return Ok(Err(NoCase::Short));
+    }
+    let (bytes, words, budget) = (
+        long_at(&header, 0),
+        long_at(&header, 4),
+        long_at(&header, 8),
+    );
+    let what = match header[111] {
+        1 => What::Load,
+        2 => What::Write,
+        _ => What::Run,
+    };
+    let lent_too_much = what != What::Run && budget > MOST_BYTES;
+    if bytes > MOST_BYTES || words > MOST_WORDS || lent_too_much {
+        return Ok(Err(NoCase::TooLarge));
+    }
+    let file = take(input, bytes as usize)?;
+    let lent = take(input, 2 * words as usize)?;
+    if file.len() < bytes as usize || lent.len() < 2 * words as usize {
+        return Ok(Err(NoCase::Short));
+    }
+    let memory = lent.chunks_exact(2).map(|two| word_at(two, 0)).collect();
+    Ok(Ok(Case {
+        what,
+        file,
+        memory,
+        budget,
+        settings: settings_of(&header),
+        state: state_of(&header),
+    }))
+}
+
+/// The check of a list of numbers.
+pub fn check(numbers: impl Iterator<Item = u32>) -> u32 {
+    numbers.fold(0, |h: u32, x| h.wrapping_mul(31).wrapping_add(x))
+}
+
+/// The line for a case, without its line feed.
+pub fn line(case: &Case) -> String {
+    match case.what {
+        What::Run => {
+            let mut memory = case.memory.clone();
+            let outcome = run(
+                &case.file,
+                &case.settings,
+                &case.state,
+                &mut memory,
+                case.budget,
+            );
+            run_line(&outcome, &memory)
+        }
+        What::Load => lent_line("loaded", case.budget, |out| load(&case.file, out)),
+        What::Write => lent_line("written", case.budget, |out| write(&case.file, out)),
+    }
+}
+
+fn run_line(outcome: &Outcome, memory: &[u16]) -> String {
+    let State {
+        w,
+        accumulators: [a, b],
+        mode,
+        flow,
+        ..
+    } = &outcome.state;
+    let mut line = format!(
+        "{} {} {a} {b} {:04X} {} {} {:04X} {}",
+        outcome.ending,
+        outcome.steps,
+        status_word(&outcome.state),
+        flow.pc,
+        flow.repeat,
+        mode.0,
+        flow.active
+    );
+    for slot in &flow.loops {
+        let _ = write!(line, " {}:{}", slot.do_number, slot.passes);
+    }
+    for word in w {
+        let _ = write!(line, " {word:04X}");
+    }
+    let _ = write!(line, " {}", check(memory.iter().map(|&x| u32::from(x))));
+    line
+}
+
+/// A load or write with R lent bytes, byte i holding i mod 251.
+fn lent_line(word: &str, lent: u32, call: impl FnOnce(&mut [u8]) -> Result<usize, u8>) -> String {
+    let mut out: Vec<u8> = (0..lent).map(|i| (i % 251) as u8).collect();
+    let answer = match call(&mut out) {
+        Ok(bytes) => format!("{word} {bytes}"),
+        Err(number) => format!("refused{number} 0"),
+    };
+    format!("{answer} {}", check(out.iter().map(|&x| u32::from(x))))
+}
+
+/// Print the lines of a whole stream.
+pub fn print_lines(mut input: impl Read, mut output: impl Write) -> io::Result<()> {
+    loop {
+        match next_case(&mut input)? {
+            Ok(case) => writeln!(output, "{}", line(&case))?,
+            Err(NoCase::End) => break,
+            Err(NoCase::Short) => {
+                writeln!(output, "short")?;
+                break;
+            }
+            Err(NoCase::TooLarge) => {
+                writeln!(output, "toolarge")?;
+                break;
+            }
+        }
+    }
+    output.flush()
+}
+
+/// The bytes of a case, as the stream holds them.
+pub fn bytes_of(case: &Case) -> Vec<u8> {
+    let (settings, state) = (&case.settings, &case.state);
+    let mut bytes = Vec::with_capacity(HEADER + case.file.len() + 2 * case.memory.len());
+    let mut put = |part: &[u8]| bytes.extend_from_slice(part);
+    put(&(case.file.len() as u32).to_le_bytes());
+    put(&(case.memory.len() as u32).to_le_bytes());
+    put(&case.budget.to_le_bytes());
+    put(&settings.x_words.to_le_bytes());
+    put(&settings.trap_word.to_le_bytes());
+    for buffer in [&settings.x, &settings.y] {
+        put(&[buffer.register, 0]);
+        put(&buffer.start.to_le_bytes());
+        put(&buffer.end.to_le_bytes());
+    }
+    put(&[settings.reversed.register, 0]);
+    put(&settings.reversed.words.to_le_bytes());
+    state.w.iter().for_each(|word| put(&word.to_le_bytes()));
+    state
+        .accumulators
+        .iter()
+        .for_each(|n| put(&n.to_le_bytes()));
+    let flow = &state.flow;
+    put(&flow.pc.to_le_bytes());
+    put(&[flow.active, 0]);
+    flow.loops
+        .iter()
+        .for_each(|l| put(&l.do_number.to_le_bytes()));
+    flow.loops.iter().for_each(|l| put(&l.passes.to_le_bytes()));
+    put(&flow.repeat.to_le_bytes());
+    put(&state.mode.0.to_le_bytes());
+    let ([oa, ob], [sa, sb]) = (state.overflow, state.saturated);
+    let flags = u8::from(oa) | u8::from(ob) << 1 | u8::from(sa) << 2 | u8::from(sb) << 3;
+    put(&[flags, case.what as u8]);
+    put(&case.file);
+    case.memory.iter().for_each(|word| put(&word.to_le_bytes()));
+    bytes
+}

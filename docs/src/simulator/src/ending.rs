@@ -1,0 +1,41 @@
+//! How a run ends.
+
+use std::fmt;
+
+/// The traps with their numbers ("Stepping and ending").
+#[derive(Clone, Copy, Debug, PartialEq, Eq, PartialOrd, Ord)]
+pub enum Trap {
+    OddAddress = 1,
+    OutsideRegion = 2,
+    ShiftTooFar = 3,
+    FourLoopsActive = 4,
+    LimitsLeft = 5,
+    OverflowA = 6,
+    OverflowB = 7,
+}
+
+impl Trap {
+    pub fn number(self) -> u8 {
+        self as u8
+    }
+}
+
+#[derive(Clone, Copy, Debug, PartialEq, Eq, PartialOrd, Ord)]
+pub enum Ending {
+    Done,
+    Spent,
+    Trap(Trap),
+    /// The number from the table of "Program file", 1 to 7.
+    Refused(u8),
+}
+
+impl fmt::Display for Ending {
+    fn fmt(&self, f: &mut fmt::Formatter) -> fmt::Result {
+        match self {
+            Ending::Done => write!(f, "done"),
+            Ending::Spent => write!(f, "spent"),
+            Ending::Trap(trap) => write!(f, "trap{}", trap.number()),
+            Ending::Refused(number) => write!(f, "refused{number}"),
+        }
+    }
+}

@@ -1,0 +1,160 @@
+//! What a stream covers: endings, answers, kinds executed, kinds of start.
+
+use std::collections::BTreeMap;
+
+use crate::address::{circular_step, plain_step};
+use crate::cases::{line, next_case, Case, What};
+use crate::ending::Ending;
+use crate::engine::accept;
+use crate::memory::Memory;
+use crate::operation::{Change, Operand, Operation, ReadAddress, Register};
+use crate::settings::Settings;
+use crate::state::State;
+use crate::step::{Machine, Step};
+
+#[derive(Clone, Debug, Default)]
+pub struct Coverage {
+    pub cases: usize,
+    /// Runs by their ending, loads and writes by their answer: `run done`,
+    /// `run trap3`, `load refused2`, `write written`.
+    pub endings: BTreeMap<String, usize>,
+    /// Executions of each kind, traps without effect not counted.
+    pub kinds: [u64; 26],
+    pub mid_loop_starts: usize,
+    pub mid_repeat_starts: usize,
+    pub most_steps: u64,
+    pub steps: u64,
+    /// Runs of a hundred steps and more.
+    pub long_runs: usize,
+    /// Steps in which X's or Y's pointer was corrected.
+    pub corrections: [u64; 2],
+    /// Bit-reversed steps.
+    pub reversed_steps: u64,
+    /// Reads at W9 + W12 or W11 + W13.
+    pub indexed_reads: [u64; 2],
+    /// Steps with so many active loops.
+    pub depths: [u64; 5],
+}
+
+/// The coverage of a whole stream.
+pub fn coverage(mut stream: &[u8]) -> Coverage {
+    let mut coverage = Coverage::default();
+    while let Ok(Ok(case)) = next_case(&mut stream) {
+        coverage.add(&case);
+    }
+    coverage
+}
+
+impl Coverage {
+    fn add(&mut self, case: &Case) {
+        self.cases += 1;
+        let name = match case.what {
+            What::Run => format!("run {}", self.add_run(case)),
+            What::Load => format!("load {}", first_field(case)),
+            What::Write => format!("write {}", first_field(case)),
+        };
+        *self.endings.entry(name).or_default() += 1;
+    }
+
+    /// Count a run's kinds by stepping through it.
+    fn add_run(&mut self, case: &Case) -> Ending {
+        let (settings, state) = (&case.settings, &case.state);
+        let mut memory = case.memory.clone();
+        let operations = match accept(&case.file, settings, state, memory.len()) {
+            Ok(operations) => operations,
+            Err(number) => return Ending::Refused(number),
+        };
+        self.mid_loop_starts += usize::from(state.flow.active > 0);
+        self.mid_repeat_starts += usize::from(state.flow.repeat > 0);
+        let mut machine = Machine {
+            state: *state,
+            operations: &operations,
+            settings,
+            memory: Memory::new(&mut memory, settings.x_words),
+        };
+        let mut steps = 0;
+        let ending = loop {
+            let pc = usize::from(machine.state.flow.pc);
+            let Some(operation) = operations.get(pc) else {
+                break Ending::Done;
+            };
+            if steps == case.budget {
+                break Ending::Spent;
+            }
+            let before = machine.state;
+            let step = machine.step();
+            if let Step::Blocked(trap) = step {
+                break Ending::Trap(trap);
+            }
+            steps += 1;
+            self.note(operation, &before, settings);
+            if let Step::Trapped(trap) = step {
+                break Ending::Trap(trap);
+            }
+        };
+        self.steps += u64::from(steps);
+        self.long_runs += usize::from(steps >= 100);
+        self.most_steps = self.most_steps.max(u64::from(steps));
+        ending
+    }
+
+    /// Count one executed operation by the state before it.
+    fn note(&mut self, operation: &Operation, before: &State, settings: &Settings) {
+        self.kinds[usize::from(operation.kind())] += 1;
+        self.depths[usize::from(before.flow.active)] += 1;
+        let buffers = [&settings.x, &settings.y];
+        for (side, read) in reads(operation).into_iter().enumerate() {
+            match read {
+                Some(ReadAddress::Indexed) => self.indexed_reads[side] += 1,
+                Some(ReadAddress::Stepped { pointer, step }) => {
+                    let old = before.w[usize::from(pointer)];
+                    let buffer = buffers[side];
+                    let corrected = pointer == buffer.register
+                        && circular_step(old, step, buffer) != plain_step(old, step);
+                    self.corrections[side] += u64::from(corrected);
+                }
+                None => {}
+            }
+        }
+        if storing_up(operation) == Some(settings.reversed.register) {
+            self.reversed_steps += 1;
+        }
+    }
+}
+
+/// The X and Y read of an operation.
+fn reads(operation: &Operation) -> [Option<ReadAddress>; 2] {
+    use Operation::*;
+    match *operation {
+        Clr(_, prefetch, _)
+        | Mpy(_, _, prefetch)
+        | Mac(_, _, prefetch, _)
+        | Msc(_, _, prefetch, _)
+        | Movsac(_, prefetch, _) => [
+            prefetch.x.map(|read| read.from),
+            prefetch.y.map(|read| read.from),
+        ],
+        Ed(_, _, both) | Edac(_, _, both) => [Some(both.x), Some(both.y)],
+        _ => [None, None],
+    }
+}
+
+/// The pointer of a store of form 2.
+fn storing_up(operation: &Operation) -> Option<Register> {
+    let (pointer, change) = match *operation {
+        Operation::Store {
+            pointer, change, ..
+        } => (pointer, change),
+        Operation::Sac(scaled) | Operation::SacR(scaled) => match scaled.operand {
+            Operand::Memory { pointer, change } => (pointer, change),
+            Operand::Register(_) => return None,
+        },
+        _ => return None,
+    };
+    (change == Change::Up).then_some(pointer)
+}
+
+fn first_field(case: &Case) -> String {
+    let line = line(case);
+    line.split(' ').next().unwrap_or_default().to_string()
+}

@@ -1,0 +1,140 @@
+//! Loads and writes of a few operations: one field off, or DO and REPEAT in
+//! any places. They are short, so that many of them fit in a stream.
+
+use super::case::file_of;
+use super::damage::{damage_length, near_miss, two_blocks};
+use super::layout::Layout;
+use super::program::{Maker, Style};
+use super::random::Random;
+use super::simple;
+use crate::cases::{Case, What};
+use crate::encode::{encode, encode_all};
+use crate::file::{block_sum, BLOCK};
+use crate::operation::Operation;
+use crate::settings::Settings;
+use crate::state::State;
+
+const IDLE: Operation = Operation::Literal(0, 0);
+
+/// A load or write of these operations, good or bad.
+fn copy_case(random: &mut Random, bytes: Vec<u8>) -> Case {
+    let writes = random.percent(70);
+    Case {
+        what: if writes { What::Write } else { What::Load },
+        budget: if writes { 512 } else { bytes.len() as u32 },
+        file: if writes { bytes } else { one_block(&bytes) },
+        memory: Vec::new(),
+        settings: Settings::plain(1),
+        state: State::reset(),
+    }
+}
+
+/// One block that holds the operations as they are.
+fn one_block(bytes: &[u8]) -> Vec<u8> {
+    let mut block = vec![0; BLOCK];
+    block[2] = (bytes.len() / 8) as u8;
+    block[8..8 + bytes.len()].copy_from_slice(bytes);
+    let sum = block_sum(&block);
+    block[4..6].copy_from_slice(&sum.to_le_bytes());
+    block
+}
+
+/// Any operation that could stand at 0 before four others.
+fn any_operation(random: &mut Random) -> Operation {
+    let register = random.below(14) as u8;
+    match random.below(12) {
+        0 => Operation::RepeatLiteral(random.pick(&[0, 1, 32_767])),
+        1 => Operation::RepeatRegister(register),
+        2 => Operation::DoLiteral {
+            count: random.pick(&[0, 1, 32_767]),
+            last: random.range(2, 4) as u16,
+        },
+        3 => Operation::DoRegister {
+            register,
+            last: random.range(2, 4) as u16,
+        },
+        _ => {
+            let layout = Layout {
+                words: 64,
+                settings: Settings::plain(32),
+            };
+            let mut style = Style::random(random, true);
+            style.mode_changes = true;
+            style.wildness = 50;
+            simple::random(&mut Maker {
+                random,
+                layout: &layout,
+                style,
+                operations: Vec::new(),
+            })
+        }
+    }
+}
+
+/// One operation with one byte off, and four idle ones after it.
+pub fn field_case(random: &mut Random) -> Case {
+    let mut operation = encode(&any_operation(random));
+    let at = random.pick(&[0, 1, 1, 2, 2, 3, 3, 3, 4, 4, 4, 5, 5, 5, 6, 7]);
+    operation[at] = near_miss(random, operation[at]);
+    let mut bytes = operation.to_vec();
+    bytes.extend(encode_all(&[IDLE; 4]));
+    copy_case(random, bytes)
+}
+
+/// A place that matters: a DO's last, next to it, before a DO, or any.
+fn telling_place(random: &mut Random, operations: &[Operation]) -> usize {
+    let count = operations.len();
+    let mut places = vec![count - 1, random.below(count), random.below(count)];
+    for (number, operation) in operations.iter().enumerate() {
+        if let Some(last) = operation.last_of_do() {
+            let last = usize::from(last);
+            places.extend([last, last + 1, last.saturating_sub(1)]);
+            places.extend([number.saturating_sub(1), number + 1]);
+        }
+    }
+    places.retain(|&place| place < count);
+    random.pick(&places)
+}
+
+/// A few operations with DOs and REPEATs, their places good or bad.
+pub fn placement_case(random: &mut Random) -> Case {
+    let count = random.range(3, 12) as usize;
+    let mut operations = vec![IDLE; count];
+    for _ in 0..random.pick(&[0, 1, 1, 1, 2, 2, 3]) {
+        let place = telling_place(random, &operations);
+        let last = match random.below(16) {
+            0 => place + random.below(3),
+            1 => count,
+            _ => (place + 2 + random.below(5)).min(count - 1),
+        } as u16;
+        operations[place] = if random.percent(50) {
+            Operation::DoLiteral { count: 1, last }
+        } else {
+            Operation::DoRegister { register: 1, last }
+        };
+    }
+    for _ in 0..random.pick(&[0, 1, 1, 2]) {
+        let place = telling_place(random, &operations);
+        operations[place] = if random.percent(50) {
+            Operation::RepeatLiteral(1)
+        } else {
+            Operation::RepeatRegister(1)
+        };
+    }
+    copy_case(random, encode_all(&operations))
+}
+
+/// A load of a few blocks: two of them bad in different ways, or a wrong length.
+pub fn blocks_case(random: &mut Random) -> Case {
+    let count = random.range(1, 189) as usize;
+    let mut case = copy_case(random, Vec::new());
+    case.what = What::Load;
+    case.file = file_of(&vec![IDLE; count]);
+    case.budget = 8 * count as u32;
+    if count > 63 {
+        two_blocks(random, &mut case.file);
+    } else {
+        damage_length(random, &mut case.file);
+    }
+    case
+}

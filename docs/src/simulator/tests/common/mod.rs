@@ -1,0 +1,244 @@
+//! Operations as bytes straight from the paper, and a bench to run them on.
+#![allow(dead_code)]
+
+use simulator::{ledger, Outcome, Settings, State};
+
+pub type Op = [u8; 8];
+
+fn with_word(mut op: Op, at: usize, word: u16) -> Op {
+    op[at..at + 2].copy_from_slice(&word.to_le_bytes());
+    op
+}
+
+pub fn clr(t: u8, b3: u8, b4: u8, b5: u8, b6: u8) -> Op {
+    [1, t, 0, b3, b4, b5, b6, 0]
+}
+pub fn mpy(t: u8, b2: u8, b3: u8, b4: u8, b5: u8) -> Op {
+    [2, t, b2, b3, b4, b5, 0, 0]
+}
+pub fn mac(t: u8, b2: u8, b3: u8, b4: u8, b5: u8, b6: u8) -> Op {
+    [3, t, b2, b3, b4, b5, b6, 0]
+}
+pub fn msc(t: u8, b2: u8, b3: u8, b4: u8, b5: u8, b6: u8) -> Op {
+    [4, t, b2, b3, b4, b5, b6, 0]
+}
+pub fn ed(t: u8, b2: u8, b3: u8, b4: u8, b5: u8) -> Op {
+    [5, t, b2, b3, b4, b5, 0, 0]
+}
+pub fn edac(t: u8, b2: u8, b3: u8, b4: u8, b5: u8) -> Op {
+    [6, t, b2, b3, b4, b5, 0, 0]
+}
+pub fn movsac(t: u8, b3: u8, b4: u8, b5: u8, b6: u8) -> Op {
+    [7, t, 0, b3, b4, b5, b6, 0]
+}
+pub fn add_both(t: u8) -> Op {
+    [8, t, 0, 0, 0, 0, 0, 0]
+}
+pub fn subtract(t: u8) -> Op {
+    [9, t, 0, 0, 0, 0, 0, 0]
+}
+pub fn negate(t: u8) -> Op {
+    [10, t, 0, 0, 0, 0, 0, 0]
+}
+pub fn shift_by(t: u8, r: u8) -> Op {
+    [11, t, 0, r, 0, 0, 0, 0]
+}
+fn scaled(kind: u8, t: u8, shift: i8, r: u8, form: u8) -> Op {
+    [kind, t, (shift + 8) as u8, r, form, 0, 0, 0]
+}
+pub fn lac(t: u8, shift: i8, r: u8, form: u8) -> Op {
+    scaled(12, t, shift, r, form)
+}
+pub fn add(t: u8, shift: i8, r: u8, form: u8) -> Op {
+    scaled(13, t, shift, r, form)
+}
+pub fn sac(t: u8, shift: i8, r: u8, form: u8) -> Op {
+    scaled(14, t, shift, r, form)
+}
+pub fn sac_r(t: u8, shift: i8, r: u8, form: u8) -> Op {
+    scaled(15, t, shift, r, form)
+}
+pub fn lit(r: u8, value: u16) -> Op {
+    with_word([16, r, 0, 0, 0, 0, 0, 0], 2, value)
+}
+pub fn load(r: u8, pointer: u8, form: u8) -> Op {
+    [17, r, 0, pointer, form, 0, 0, 0]
+}
+pub fn store(r: u8, pointer: u8, form: u8) -> Op {
+    [18, r, 0, pointer, form, 0, 0, 0]
+}
+pub fn repeat(count: u16) -> Op {
+    with_word([19, 0, 0, 0, 0, 0, 0, 0], 2, count)
+}
+pub fn repeat_w(r: u8) -> Op {
+    [20, r, 0, 0, 0, 0, 0, 0]
+}
+pub fn do_lit(count: u16, last: u16) -> Op {
+    with_word(with_word([21, 0, 0, 0, 0, 0, 0, 0], 2, count), 4, last)
+}
+pub fn do_w(r: u8, last: u16) -> Op {
+    with_word([22, r, 0, 0, 0, 0, 0, 0], 4, last)
+}
+pub const END_EARLY: Op = [23, 0, 0, 0, 0, 0, 0, 0];
+pub fn mode(word: u16) -> Op {
+    with_word([24, 0, 0, 0, 0, 0, 0, 0], 2, word)
+}
+pub const CLEAR_S: Op = [25, 0, 0, 0, 0, 0, 0, 0];
+/// An operation without any effect but its step: literal 0 to W0.
+pub const IDLE: Op = [16, 0, 0, 0, 0, 0, 0, 0];
+
+/// The file of operations, whatever they are, built by hand.
+pub fn file_of(ops: &[Op]) -> Vec<u8> {
+    let mut file = Vec::new();
+    for (number, part) in ops.chunks(63).enumerate() {
+        let mut block = vec![number as u8, 0, part.len() as u8, 0, 0, 0, 0, 0];
+        block.extend(part.iter().flatten());
+        block.resize(512, 0);
+        let sum: u32 = block.iter().map(|&b| u32::from(b)).sum();
+        block[4] = (sum % 256) as u8;
+        block[5] = (sum / 256 % 256) as u8;
+        file.extend(block);
+    }
+    file
+}
+
+/// 64 words of memory, X 1000..103F, Y 1040..107F hex.
+pub struct Bench {
+    pub settings: Settings,
+    pub state: State,
+    pub memory: Vec<u16>,
+    pub budget: u32,
+}
+
+impl Bench {
+    pub fn new() -> Bench {
+        Bench::sized(64, 32)
+    }
+
+    pub fn sized(words: usize, x_words: u16) -> Bench {
+        Bench {
+            settings: Settings::plain(x_words),
+            state: State::reset(),
+            memory: vec![0; words],
+            budget: 1_000_000,
+        }
+    }
+
+    pub fn mode(mut self, word: u16) -> Bench {
+        self.state.mode.0 = word;
+        self
+    }
+
+    pub fn a(mut self, value: i64) -> Bench {
+        self.state.accumulators[0] = value;
+        self
+    }
+
+    pub fn b(mut self, value: i64) -> Bench {
+        self.state.accumulators[1] = value;
+        self
+    }
+
+    pub fn w(mut self, register: usize, value: u16) -> Bench {
+        self.state.w[register] = value;
+        self
+    }
+
+    /// A word of memory by its byte address.
+    pub fn word(mut self, address: u16, value: u16) -> Bench {
+        self.memory[(usize::from(address) - 0x1000) / 2] = value;
+        self
+    }
+
+    pub fn at(&self, address: u16) -> u16 {
+        self.memory[(usize::from(address) - 0x1000) / 2]
+    }
+
+    pub fn budget(mut self, budget: u32) -> Bench {
+        self.budget = budget;
+        self
+    }
+
+    pub fn traps(mut self, trap_word: u16) -> Bench {
+        self.settings.trap_word = trap_word;
+        self
+    }
+
+    pub fn pc(mut self, pc: u16) -> Bench {
+        self.state.flow.pc = pc;
+        self
+    }
+
+    /// A further active loop.
+    pub fn within(mut self, do_number: u16, passes: u32) -> Bench {
+        let slot = usize::from(self.state.flow.active);
+        self.state.flow.loops[slot].do_number = do_number;
+        self.state.flow.loops[slot].passes = passes;
+        self.state.flow.active += 1;
+        self
+    }
+
+    pub fn repeating(mut self, left: u32) -> Bench {
+        self.state.flow.repeat = left;
+        self
+    }
+
+    pub fn run(&mut self, ops: &[Op]) -> Outcome {
+        simulator::run(
+            &file_of(ops),
+            &self.settings,
+            &self.state,
+            &mut self.memory,
+            self.budget,
+        )
+    }
+
+    pub fn ledger(&self, ops: &[Op]) -> ledger::LedgerOutcome {
+        simulator::ledger_run(
+            &file_of(ops),
+            &self.settings,
+            &self.state,
+            &self.memory,
+            self.budget,
+        )
+    }
+
+    /// Run, and ask that it was refused with this number and changed nothing.
+    pub fn refused(&mut self, ops: &[Op], number: u8) {
+        let before = self.memory.clone();
+        let outcome = self.run(ops);
+        assert_eq!(outcome.ending, simulator::Ending::Refused(number));
+        assert_eq!(outcome.state, self.state);
+        assert_eq!(outcome.steps, 0);
+        assert_eq!(self.memory, before);
+    }
+
+    /// Run with budget 0, and ask that it was accepted.
+    pub fn accepted(&mut self, ops: &[Op]) {
+        let budget = self.budget;
+        self.budget = 0;
+        let outcome = self.run(ops);
+        self.budget = budget;
+        assert!(
+            !matches!(outcome.ending, simulator::Ending::Refused(_)),
+            "{:?}",
+            outcome.ending
+        );
+    }
+}
+
+/// The ending of a trap by its number.
+pub fn trap(number: u8) -> simulator::Ending {
+    use simulator::Trap::*;
+    simulator::Ending::Trap(
+        [
+            OddAddress,
+            OutsideRegion,
+            ShiftTooFar,
+            FourLoopsActive,
+            LimitsLeft,
+            OverflowA,
+            OverflowB,
+        ][usize::from(number) - 1],
+    )
+}

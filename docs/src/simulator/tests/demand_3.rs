@@ -1,0 +1,167 @@
+//! Demand 3 on random accepted runs: both S flags are clear at the engine's end
+//! exactly when the ledger was not marked "left"; then both end alike; and every
+//! rounded store that needed no limiting is within half a unit of the exact
+//! value.
+
+use simulator::cases::Case;
+use simulator::generate::case::{accepted_run, candidate};
+use simulator::generate::random::Random;
+use simulator::ledger::{LedgerEnding, LedgerOutcome, ListedStore};
+use simulator::operand::Place;
+use simulator::{ledger_run, run, Ending, Outcome, Trap};
+
+#[derive(Debug, Default)]
+struct Seen {
+    runs: usize,
+    left: usize,
+    not_left: usize,
+    /// Left, after this many stores were listed.
+    left_with_stores: usize,
+    rounded_without_limiting: usize,
+    rounded_with_limiting: usize,
+    rerun: usize,
+    rerun_to_memory: usize,
+    rerun_ties: usize,
+    overflow_traps: usize,
+    traps_without_effect: usize,
+    done: usize,
+    spent: usize,
+    mid_loop: usize,
+    mid_repeat: usize,
+    steps: u64,
+}
+
+fn engine_run(case: &Case, budget: u32) -> (Outcome, Vec<u16>) {
+    let mut memory = case.memory.clone();
+    let outcome = run(&case.file, &case.settings, &case.state, &mut memory, budget);
+    (outcome, memory)
+}
+
+fn ledger_of(case: &Case) -> LedgerOutcome {
+    ledger_run(
+        &case.file,
+        &case.settings,
+        &case.state,
+        &case.memory,
+        case.budget,
+    )
+}
+
+/// Everything the ledger has is as the engine's.
+fn end_alike(outcome: &Outcome, memory: &[u16], ledger: &LedgerOutcome) {
+    let (state, exact) = (&outcome.state, &ledger.state);
+    assert_eq!(state.accumulators.map(i128::from), exact.accumulators);
+    assert_eq!(state.w, exact.w);
+    assert_eq!(state.flow, exact.flow);
+    assert_eq!(state.mode, exact.mode);
+    assert_eq!(state.overflow, exact.overflow);
+    assert_eq!(memory, ledger.memory);
+    assert_eq!(outcome.steps, ledger.steps);
+    assert_eq!(LedgerEnding::AsRun(outcome.ending), ledger.ending);
+}
+
+/// The engine's stored word at a store's step, by a run of its own.
+fn engine_word(case: &Case, store: &ListedStore) -> i128 {
+    let (outcome, memory) = engine_run(case, store.step);
+    assert_eq!(outcome.steps, store.step);
+    let word = match store.place {
+        Place::Register(register) => outcome.state.w[usize::from(register)],
+        Place::Memory(index) => memory[index.0],
+    };
+    i128::from(word as i16)
+}
+
+fn check_store(case: &Case, store: &ListedStore, seen: &mut Seen) {
+    let word = engine_word(case, store);
+    assert_eq!(word, store.word);
+    if store.rounded && !store.limiting_needed {
+        let distance = (65_536 * word - store.value).abs();
+        assert!(distance <= 32_768, "{store:?}");
+        seen.rerun += 1;
+        seen.rerun_ties += usize::from(distance == 32_768);
+        seen.rerun_to_memory += usize::from(matches!(store.place, Place::Memory(_)));
+    }
+}
+
+/// A sample of a run's stores, one rounded without limiting among them where
+/// there is one.
+fn check_stores(random: &mut Random, case: &Case, ledger: &LedgerOutcome, seen: &mut Seen) {
+    let bound: Vec<&ListedStore> = ledger
+        .stores
+        .iter()
+        .filter(|store| store.rounded && !store.limiting_needed)
+        .collect();
+    for store in &bound {
+        assert!((65_536 * store.word - store.value).abs() <= 32_768);
+    }
+    seen.rounded_without_limiting += bound.len();
+    let rounded = ledger.stores.iter().filter(|store| store.rounded).count();
+    seen.rounded_with_limiting += rounded - bound.len();
+    for _ in 0..bound.len().min(3) {
+        check_store(case, random.pick(&bound), seen);
+    }
+    if !ledger.stores.is_empty() {
+        check_store(case, &random.pick(&ledger.stores), seen);
+    }
+}
+
+fn check_run(random: &mut Random, mut case: Case, seen: &mut Seen) {
+    case.state.saturated = [false; 2];
+    case.budget = case.budget.min(20_000);
+    let (outcome, memory) = engine_run(&case, case.budget);
+    let ledger = ledger_of(&case);
+    assert!(!matches!(outcome.ending, Ending::Refused(_)));
+    let left = ledger.ending == LedgerEnding::Left;
+    assert_eq!(outcome.state.saturated == [false; 2], !left);
+    if !left {
+        end_alike(&outcome, &memory, &ledger);
+    }
+    check_stores(random, &case, &ledger, seen);
+    count(&case, &outcome, &ledger, left, seen);
+}
+
+fn count(case: &Case, outcome: &Outcome, ledger: &LedgerOutcome, left: bool, seen: &mut Seen) {
+    seen.runs += 1;
+    seen.left += usize::from(left);
+    seen.not_left += usize::from(!left);
+    seen.left_with_stores += usize::from(left && !ledger.stores.is_empty());
+    seen.mid_loop += usize::from(case.state.flow.active > 0);
+    seen.mid_repeat += usize::from(case.state.flow.repeat > 0);
+    seen.steps += u64::from(outcome.steps);
+    match outcome.ending {
+        Ending::Done => seen.done += 1,
+        Ending::Spent => seen.spent += 1,
+        Ending::Trap(Trap::OverflowA | Trap::OverflowB) => {
+            seen.overflow_traps += usize::from(!left);
+        }
+        _ => seen.traps_without_effect += 1,
+    }
+}
+
+#[test]
+fn demand_3_on_random_accepted_runs() {
+    let mut random = Random::new(33);
+    let mut seen = Seen::default();
+    for _ in 0..20_000 {
+        let case = candidate(&mut random, false);
+        check_run(&mut random, case, &mut seen);
+    }
+    for _ in 0..2_000 {
+        let case = accepted_run(&mut random, false);
+        check_run(&mut random, case, &mut seen);
+    }
+    println!("{seen:#?}");
+    assert!(seen.runs >= 20_000);
+    assert!(seen.left >= 3_000);
+    assert!(seen.left_with_stores >= 1_000);
+    assert!(seen.not_left >= 10_000);
+    assert!(seen.rounded_without_limiting >= 50_000);
+    assert!(seen.rounded_with_limiting >= 5_000);
+    assert!(seen.rerun >= 15_000);
+    assert!(seen.rerun_to_memory >= 5_000);
+    assert!(seen.overflow_traps >= 200);
+    assert!(seen.traps_without_effect >= 1_000);
+    assert!(seen.done >= 2_000 && seen.spent >= 2_000);
+    assert!(seen.mid_loop >= 2_000);
+    assert!(seen.mid_repeat >= 1_000);
+}

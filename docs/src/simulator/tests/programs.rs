@@ -1,0 +1,69 @@
+//! The three programs as they are started.
+
+mod common;
+use common::*;
+use std::io::Write;
+use std::path::PathBuf;
+use std::process::{Command, Output, Stdio};
+
+fn started(program: &str, arguments: &[&str], input: &[u8]) -> Output {
+    let mut child = Command::new(program)
+        .args(arguments)
+        .stdin(Stdio::piped())
+        .stdout(Stdio::piped())
+        .stderr(Stdio::piped())
+        .spawn()
+        .unwrap();
+    let mut stdin = child.stdin.take().unwrap();
+    let input = input.to_vec();
+    // The program may end before it has read everything.
+    let feeder = std::thread::spawn(move || {
+        let _ = stdin.write_all(&input);
+    });
+    let output = child.wait_with_output().unwrap();
+    feeder.join().unwrap();
+    output
+}
+
+fn temporary(name: &str) -> PathBuf {
+    PathBuf::from(env!("CARGO_TARGET_TMPDIR")).join(name)
+}
+
+#[test]
+fn tally_prints_its_line() {
+    let tally = env!("CARGO_BIN_EXE_tally");
+    let file = file_of(&[lit(4, 3), lit(5, 0xFFFE), mpy(0, 0x54, 0, 0, 0)]);
+    assert_eq!(started(tally, &[], &file).stdout, b"done 3 -12 0 0000\n");
+    assert_eq!(started(tally, &[], &[]).stdout, b"refused1\n");
+    let long = vec![0; 100_000];
+    assert_eq!(started(tally, &[], &long).stdout, b"refused1\n");
+}
+
+#[test]
+fn generate_and_cases_agree() {
+    let (stream, lines) = (temporary("stream"), temporary("lines"));
+    let names = [stream.to_str().unwrap(), lines.to_str().unwrap()];
+    let generate = env!("CARGO_BIN_EXE_generate");
+    let output = started(generate, &["9", "60", names[0], names[1]], &[]);
+    assert!(output.status.success());
+    let stream = std::fs::read(stream).unwrap();
+    let lines = std::fs::read(lines).unwrap();
+    let cases = env!("CARGO_BIN_EXE_cases");
+    assert_eq!(started(cases, &[], &stream).stdout, lines);
+    let short = started(cases, &[], &stream[..stream.len() - 1]).stdout;
+    assert!(short.ends_with(b"\nshort\n"));
+}
+
+#[test]
+fn generate_refuses_bad_arguments() {
+    let generate = env!("CARGO_BIN_EXE_generate");
+    for arguments in [
+        &["1", "2"][..],
+        &["x", "1", "a", "b"],
+        &["1", "-1", "a", "b"],
+    ] {
+        let output = started(generate, arguments, &[]);
+        assert!(!output.status.success());
+        assert!(!output.stderr.is_empty());
+    }
+}

@@ -1,0 +1,59 @@
+//! The generated stream: deterministic, covering, and printed by `cases` as
+//! the generator says.
+
+use simulator::cases::print_lines;
+use simulator::generate::coverage::coverage;
+use simulator::generate::generate;
+
+const SEED: u64 = 1;
+const CASES: usize = 2_000;
+
+#[test]
+fn generate_is_deterministic() {
+    let first = generate(7, 150).unwrap();
+    assert_eq!(first, generate(7, 150).unwrap());
+    assert_ne!(first, generate(8, 150).unwrap());
+}
+
+#[test]
+fn cases_prints_the_generated_lines() {
+    let (stream, lines) = generate(3, 400).unwrap();
+    let mut printed = Vec::new();
+    print_lines(stream.as_slice(), &mut printed).unwrap();
+    assert_eq!(printed, lines);
+    assert_eq!(lines.iter().filter(|&&byte| byte == b'\n').count(), 400);
+}
+
+#[test]
+fn every_ending_refusal_and_kind_is_covered() {
+    let (stream, _) = generate(SEED, CASES).unwrap();
+    let coverage = coverage(&stream);
+    println!("{coverage:#?}, {} bytes", stream.len());
+    assert_eq!(coverage.cases, CASES);
+    let mut names: Vec<String> = vec!["run done".into(), "run spent".into()];
+    names.extend((1..=7).map(|n| format!("run trap{n}")));
+    names.extend((1..=7).map(|n| format!("run refused{n}")));
+    names.extend([1, 2, 3, 4, 5, 8].map(|n| format!("load refused{n}")));
+    names.extend([1, 4, 5, 8].map(|n| format!("write refused{n}")));
+    names.extend(["load loaded".into(), "write written".into()]);
+    for name in &names {
+        let seen = coverage.endings.get(name).copied().unwrap_or(0);
+        assert!(seen >= 5, "{name}: {seen}");
+    }
+    for name in coverage.endings.keys() {
+        assert!(names.contains(name), "{name}");
+    }
+    for kind in 1..=25 {
+        let seen = coverage.kinds[kind];
+        assert!(seen >= 100, "kind {kind}: {seen}");
+    }
+    assert!(coverage.mid_loop_starts >= 50);
+    assert!(coverage.mid_repeat_starts >= 30);
+    assert!(coverage.most_steps >= 20_000);
+    assert!(coverage.steps >= 300_000);
+    assert!(coverage.long_runs >= 200);
+    assert!(coverage.corrections.iter().all(|&seen| seen >= 200));
+    assert!(coverage.indexed_reads.iter().all(|&seen| seen >= 500));
+    assert!(coverage.reversed_steps >= 500);
+    assert!(coverage.depths.iter().all(|&seen| seen >= 200));
+}
