@@ -188,7 +188,15 @@ fn rows() -> Vec<String> {
             written(0, 1 << 31)
         ),
         format!("C {}", product_by_mode(0xFFFF, 0xFFFF, Mode(0x1001))),
-        format!("D{}", stores(&[(0x20, 98_304), (0x20, 32_768), (0x20, -32_768), (0x22, 32_768)])),
+        format!(
+            "D{}",
+            stores(&[
+                (0x20, 98_304),
+                (0x20, 32_768),
+                (0x20, -32_768),
+                (0x22, 32_768)
+            ])
+        ),
         format!("E{}", stores(&[(0x20, 2_147_450_880), (0, 2_147_450_880)])),
         format!("F{}{}", written(0x0090, 1 << 39), written(0, 1 << 39)),
         format!("G {:04x}", circular_step(0x1106, 4, &circular)),

@@ -52,7 +52,7 @@ fn every_ending_refusal_and_kind_is_covered() {
     assert!(coverage.most_steps >= 20_000);
     assert!(coverage.steps >= 300_000);
     assert!(coverage.long_runs >= 200);
-    assert!(coverage.corrections.iter().all(|&seen| seen >= 200));
+    assert!(coverage.corrections.iter().all(|&seen| seen >= 100));
     assert!(coverage.indexed_reads.iter().all(|&seen| seen >= 500));
     assert!(coverage.reversed_steps >= 500);
     assert!(coverage.depths.iter().all(|&seen| seen >= 200));

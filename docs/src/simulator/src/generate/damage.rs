@@ -228,8 +228,8 @@ pub fn damage_settings(random: &mut Random, case: &mut Case) {
             damage_buffer(random, &mut settings.y, first, words);
         }
         7 => {
-            settings.reversed.register = random.pick(&[14, 15, 16, 255, 0, 13, 5]);
-            settings.reversed.words = random.pick(&[0, 1, 2, 3, 12, 1_024, 1_023, 2_048, 0x8000]);
+            settings.reversed.register = random.pick(&[0, 1, 5, 12, 13, 14, 15, 16]);
+            settings.reversed.words = random.pick(&[0, 1, 1, 2, 3, 1_024, 1_023, 2_048]);
         }
         _ => {
             settings.reversed.register = settings.x.register;

@@ -29,6 +29,13 @@ fn small_layout(random: &mut Random) -> Layout {
         register: random.pick(&[1, 12]),
         words: 2 << random.below(4),
     };
+    // Without the buffers now and then, so that they hide no other edge.
+    if random.percent(40) {
+        settings.x = Circular::NONE;
+    }
+    if random.percent(40) {
+        settings.y = Circular::NONE;
+    }
     Layout { words, settings }
 }
 

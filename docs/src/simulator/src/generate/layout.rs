@@ -93,7 +93,7 @@ impl Layout {
 /// reads it must leave alone), else anywhere.
 fn x_buffer(random: &mut Random, x_words: usize, words: usize) -> Circular {
     let any = random.below(14) as u8;
-    let register = random.pick(&[8, 8, 9, 9, 13, 13, 0, 1, 10, 11, any]);
+    let register = random.pick(&[8, 8, 8, 9, 9, 9, 13, 13, 0, 1, 10, 11, any]);
     let (first, end) = match register {
         8 | 9 => (0, x_words),
         10 | 11 => (x_words, words),

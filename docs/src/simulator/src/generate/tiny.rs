@@ -1,5 +1,5 @@
-//! Loads and writes of a few operations: one field off, or DO and REPEAT in
-//! any places. They are short, so that many of them fit in a stream.
+//! Cases of a few operations: one field off, or DO and REPEAT in any places.
+//! They are short, so that many of them fit in a stream.
 
 use super::case::file_of;
 use super::damage::{damage_length, near_miss, two_blocks};
@@ -8,6 +8,7 @@ use super::program::{Maker, Style};
 use super::random::Random;
 use super::simple;
 use crate::cases::{Case, What};
+use crate::decode::decode;
 use crate::encode::{encode, encode_all};
 use crate::file::{block_sum, BLOCK};
 use crate::operation::Operation;
@@ -16,11 +17,13 @@ use crate::state::State;
 
 const IDLE: Operation = Operation::Literal(0, 0);
 
-/// A load or write of these operations, good or bad.
+/// A write, load or run of these operations, good or bad. The run has no memory:
+/// where the operations are good, refusal 6 follows.
 fn copy_case(random: &mut Random, bytes: Vec<u8>) -> Case {
-    let writes = random.percent(70);
+    let what = random.pick(&[What::Write, What::Write, What::Write, What::Load, What::Run]);
+    let writes = what == What::Write;
     Case {
-        what: if writes { What::Write } else { What::Load },
+        what,
         budget: if writes { 512 } else { bytes.len() as u32 },
         file: if writes { bytes } else { one_block(&bytes) },
         memory: Vec::new(),
@@ -71,11 +74,44 @@ fn any_operation(random: &mut Random) -> Operation {
     }
 }
 
+/// A value of one byte just inside or just outside what is good there, with the
+/// other bytes as they are.
+fn edge_value(random: &mut Random, operation: [u8; 8], at: usize) -> u8 {
+    let good = |value: u8| {
+        let mut changed = operation;
+        changed[at] = value;
+        decode(&changed).is_some()
+    };
+    let in_nibbles = operation[0] <= 7 && (2..=5).contains(&at);
+    let steps: &[u8] = if in_nibbles {
+        &[1, 255, 16, 240]
+    } else {
+        &[1, 255]
+    };
+    let is_edge = |value: &u8| {
+        let mut beside = steps.iter().map(|step| value.wrapping_add(*step));
+        beside.any(|other| good(other) != good(*value))
+    };
+    let edges: Vec<u8> = (0..=255).filter(is_edge).collect();
+    if edges.is_empty() {
+        near_miss(random, operation[at])
+    } else {
+        random.pick(&edges)
+    }
+}
+
 /// One operation with one byte off, and four idle ones after it.
 pub fn field_case(random: &mut Random) -> Case {
     let mut operation = encode(&any_operation(random));
     let at = random.pick(&[0, 1, 1, 2, 2, 3, 3, 3, 4, 4, 4, 5, 5, 5, 6, 7]);
-    operation[at] = near_miss(random, operation[at]);
+    if operation[0] <= 7 && random.percent(15) {
+        // Both reads to one register.
+        operation[5] = 0x11 * random.range(4, 7) as u8;
+    } else if random.percent(75) {
+        operation[at] = edge_value(random, operation, at);
+    } else {
+        operation[at] = near_miss(random, operation[at]);
+    }
     let mut bytes = operation.to_vec();
     bytes.extend(encode_all(&[IDLE; 4]));
     copy_case(random, bytes)
@@ -96,8 +132,29 @@ fn telling_place(random: &mut Random, operations: &[Operation]) -> usize {
     random.pick(&places)
 }
 
+/// Two loops that just nest, just follow each other, or just do not.
+fn two_loops(random: &mut Random) -> Vec<Operation> {
+    let outer = random.range(4, 7);
+    let place = random.pick(&[2, outer - 2, outer - 1, outer, outer, outer + 1]);
+    let inner = (outer + random.range(-1, 1)).max(place + 2);
+    let mut operations = vec![IDLE; 12];
+    operations[1] = Operation::DoLiteral {
+        count: 1,
+        last: outer as u16,
+    };
+    operations[place as usize] = Operation::DoLiteral {
+        count: 1,
+        last: inner as u16,
+    };
+    operations
+}
+
 /// A few operations with DOs and REPEATs, their places good or bad.
 pub fn placement_case(random: &mut Random) -> Case {
+    if random.percent(25) {
+        let operations = two_loops(random);
+        return copy_case(random, encode_all(&operations));
+    }
     let count = random.range(3, 12) as usize;
     let mut operations = vec![IDLE; count];
     for _ in 0..random.pick(&[0, 1, 1, 1, 2, 2, 3]) {
@@ -124,17 +181,18 @@ pub fn placement_case(random: &mut Random) -> Case {
     copy_case(random, encode_all(&operations))
 }
 
-/// A load of a few blocks: two of them bad in different ways, or a wrong length.
+/// A load or run of a few blocks: two of them bad in different ways, or a wrong
+/// length. The run has no memory, so that refusal 6 would follow.
 pub fn blocks_case(random: &mut Random) -> Case {
-    let count = random.range(1, 189) as usize;
     let mut case = copy_case(random, Vec::new());
-    case.what = What::Load;
-    case.file = file_of(&vec![IDLE; count]);
-    case.budget = 8 * count as u32;
-    if count > 63 {
+    case.what = random.pick(&[What::Load, What::Run]);
+    if random.percent(50) {
+        case.file = file_of(&vec![IDLE; random.range(64, 189) as usize]);
         two_blocks(random, &mut case.file);
     } else {
+        case.file = file_of(&vec![IDLE; random.range(1, 70) as usize]);
         damage_length(random, &mut case.file);
     }
+    case.budget = 1_600;
     case
 }
