@@ -29,7 +29,7 @@ fn bit(x: u64) -> bool {
 }
 
 fn result(x: u64, y: u64) -> i64 {
-    if y / 4 % 2 == 0 {
+    if (y / 4).is_multiple_of(2) {
         let limit: i64 = [1 << 31, -(1 << 31), 1 << 39, -(1 << 39)][(y % 4) as usize];
         limit + (x % 8) as i64 - 4
     } else {
@@ -38,7 +38,11 @@ fn result(x: u64, y: u64) -> i64 {
 }
 
 fn stored(x: u64, y: u64) -> i64 {
-    let low = if y % 4 == 0 { 32_768 } else { y % 65_536 };
+    let low = if y.is_multiple_of(4) {
+        32_768
+    } else {
+        y % 65_536
+    };
     (x % 131_072 * 65_536 + low) as i64 - (1 << 32)
 }
 
