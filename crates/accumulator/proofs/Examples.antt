@@ -1,4 +1,4 @@
--- Rows A to F and L of document 01's table, by computation over the definitions that the contracts cite. Assumes nothing.
+-- Rows A to F and L of document 01's table, and edge cases, by computation of the definitions that the contracts cite. Assumes nothing.
 use mathlib.Core.Path.{_≡_, refl}
 use mathlib.Core.Bool.{Bool, true, false}
 use Prim.Native.Nat.{ℕ, _-_, _^_}
@@ -6,73 +6,151 @@ use lib.IntN.{ℤ, pos, negsuc}
 use Rattle.integers.specs.Floor.{remainderOf}
 use Rattle.integers.specs.Bits.{lowBits, signedOf}
 use Rattle.integers.specs.Range.{lowest, highest, outside, nearer, limitedTo}
-use Rattle.accumulator.specs.declared.mode.Mode.{Mode}
-use Rattle.accumulator.specs.declared.mode.Target.the-variants.{A}
+use Rattle.accumulator.specs.declared.mode.Target.{Target}
+use Rattle.accumulator.specs.declared.mode.Target.the-variants.{A, B}
 use Rattle.accumulator.specs.declared.limit.Accumulator.{Accumulator}
 use Rattle.accumulator.specs.declared.product.Factor.{Factor}
 use Rattle.accumulator.specs.declared.store.Stored.{Stored}
-use Rattle.accumulator.specs.Mode.{modeOf, goodMode, resetMode, saturates}
+use Rattle.accumulator.specs.Mode.{modeOf, isGoodMode, resetMode, saturates}
+use Rattle.accumulator.specs.Status.{statusOf}
 use Rattle.accumulator.specs.Product.{readOf, productOf, squareOf}
-use Rattle.accumulator.specs.Limits.{limitBits, leftOf, keptOf, overflowOf, writeOf}
+use Rattle.accumulator.specs.Limit.{limitBits, hasLeft, keptOf, overflows, writeOf}
 use Rattle.accumulator.specs.Shift.{shiftOf, shiftAllowed}
-use Rattle.accumulator.specs.Store.{oddOf, roundsUp, roundedOf, limitingOf, wordOf, storeOf}
+use Rattle.accumulator.specs.Store.{isOdd, roundsUp, roundedOf, needsLimiting, storedWord, storeOf}
 
-signedWord : ℕ → Factor
-signedWord w = record { word = w; unsigned = false }
+-- a word as a factor, read by a mode word's US
+abbrev factor : ℕ → ℕ → Factor
+factor m w = record { word = w; unsigned = modeOf m .unsigned }
 
-unsignedWord : ℕ → Factor
-unsignedWord w = record { word = w; unsigned = true }
+abbrev multiplied : ℕ → ℕ → ℕ → ℤ
+multiplied m v w = productOf (modeOf m .integer) (factor m v) (factor m w)
 
--- an accumulator after r is written over one with both flags clear; the mode word is given
-written : ℕ → ℤ → Accumulator
-written m r = writeOf (record { value = pos 0; overflow = false; saturation = false }) (modeOf m) A r
+abbrev squared : ℕ → ℕ → ℤ
+squared m w = squareOf (modeOf m .integer) (factor m w)
 
-after : ℤ → Bool → Bool → Accumulator
-after v o s = record { value = v; overflow = o; saturation = s }
+-- an accumulator: its value, O and S
+abbrev holds : ℤ → Bool → Bool → Accumulator
+holds v o s = record { value = v; overflow = o; saturation = s }
+
+-- an accumulator with both flags clear, after r is written by a mode word
+abbrev written : ℕ → Target → ℤ → Accumulator
+written m t r = writeOf (holds (pos 0) false false) (modeOf m) t r
 
 -- the rounded store by a mode word
-rounds : ℕ → ℤ → Stored
+abbrev rounds : ℕ → ℤ → Stored
 rounds m v = storeOf (modeOf m) true v
 
-gives : ℕ → Bool → Stored
-gives w l = record { word = w; limited = l }
+abbrev gives : ℕ → Bool → Stored
+gives w l = record { word = w; limiting = l }
 
--- the reset mode is good, saturation is off in it, and SATDW is on
-reset-good : goodMode resetMode ≡ true
-unfolding goodMode
-reset-good = refl
+-- ---- the mode word and the status word
+
+-- the mode word after reset is good, and SATDW alone is on in it
+reset : (isGoodMode resetMode ≡ true) × (modeOf resetMode ≡ record { unsigned = false; sata = false; satb = false; satdw = true; accsat = false; rnd = false; integer = false })
+unfolding isGoodMode modeOf
+reset = (refl, refl)
+
+-- every listed bit, and US 1; then SATB alone
+modes :
+    (modeOf 0x10f3 ≡ record { unsigned = true; sata = true; satb = true; satdw = true; accsat = true; rnd = true; integer = true })
+    × (modeOf 0x0040 ≡ record { unsigned = false; sata = false; satb = true; satdw = false; accsat = false; rnd = false; integer = false })
+unfolding modeOf
+modes = (refl, refl)
+
+-- every listed bit is good; US 2 and 3 and each end of the unlisted bits are bad
+goods :
+    (isGoodMode 0x10f3 ≡ true)
+    × (isGoodMode 0x2000 ≡ false)
+    × (isGoodMode 0x3000 ≡ false)
+    × (isGoodMode 0x8000 ≡ false)
+    × (isGoodMode 0x4000 ≡ false)
+    × (isGoodMode 0x0800 ≡ false)
+    × (isGoodMode 0x0100 ≡ false)
+    × (isGoodMode 0x0008 ≡ false)
+    × (isGoodMode 0x0004 ≡ false)
+unfolding isGoodMode
+goods = (refl, refl, refl, refl, refl, refl, refl, refl, refl)
+
+-- all six facts; SA alone, with the combined bit; a loop and a repeat
+statuses :
+    (statusOf (record { oa = true; ob = true; sa = true; sb = true; looping = true; repeating = true }) ≡ 0xfe10)
+    × (statusOf (record { oa = false; ob = false; sa = true; sb = false; looping = false; repeating = false }) ≡ 0x2400)
+    × (statusOf (record { oa = false; ob = true; sa = false; sb = false; looping = true; repeating = false }) ≡ 0x4a00)
+unfolding statusOf
+statuses = (refl, refl, refl)
+
+-- ---- rows of the table
 
 -- A: 3 × -2, reset mode: -12
-row-a : productOf (modeOf resetMode .integer) (signedWord 3) (signedWord 0xfffe) ≡ negsuc 11
-unfolding modeOf productOf readOf signedOf signedWord
+pub row-a : multiplied resetMode 3 0xfffe ≡ negsuc 11
+unfolding modeOf productOf readOf signedOf
 row-a = refl
 
 -- B: -32,768 squared, IF 0: 2^31; ACCSAT 0 saturating (SATA, 0080 hex) 2^31 - 1 with S, off 2^31 with O only
-row-b : (squareOf false (signedWord 0x8000) ≡ pos (2 ^ 31)) × (written 0x80 (pos (2 ^ 31)) ≡ after (pos (2 ^ 31 - 1)) false true) × (written 0 (pos (2 ^ 31)) ≡ after (pos (2 ^ 31)) true false)
-unfolding productOf readOf signedOf signedWord written after writeOf keptOf leftOf overflowOf limitBits saturates modeOf outside nearer lowest highest
+pub row-b :
+    (squared 0 0x8000 ≡ pos (2 ^ 31))
+    × (written 0x80 A (pos (2 ^ 31)) ≡ holds (pos (2 ^ 31 - 1)) false true)
+    × (written 0 A (pos (2 ^ 31)) ≡ holds (pos (2 ^ 31)) true false)
+unfolding productOf readOf signedOf writeOf keptOf hasLeft overflows limitBits saturates modeOf outside nearer lowest highest
 row-b = (refl, refl, refl)
 
--- C: unsigned integer 65,535²: 4,294,836,225
-row-c : squareOf true (unsignedWord 0xffff) ≡ pos 4294836225
-unfolding productOf readOf unsignedWord
+-- C: unsigned integer (1001 hex) 65,535²: 4,294,836,225
+pub row-c : squared 0x1001 0xffff ≡ pos 4294836225
+unfolding modeOf productOf readOf
 row-c = refl
 
 -- D: RND 0 stores 98,304 as 2, 32,768 as 0, -32,768 as 0; RND 1 stores 32,768 as 1
-row-d : (rounds 0x20 (pos 98304) ≡ gives 2 false) × (rounds 0x20 (pos 32768) ≡ gives 0 false) × (rounds 0x20 (negsuc 32767) ≡ gives 0 false) × (rounds 0x22 (pos 32768) ≡ gives 1 false)
-unfolding rounds gives modeOf storeOf wordOf roundedOf roundsUp oddOf limitingOf lowBits remainderOf limitedTo outside nearer lowest highest
+pub row-d :
+    (rounds 0x20 (pos 98304) ≡ gives 2 false)
+    × (rounds 0x20 (pos 32768) ≡ gives 0 false)
+    × (rounds 0x20 (negsuc 32767) ≡ gives 0 false)
+    × (rounds 0x22 (pos 32768) ≡ gives 1 false)
+unfolding modeOf storeOf storedWord roundedOf roundsUp isOdd needsLimiting lowBits remainderOf limitedTo outside nearer lowest highest
 row-d = (refl, refl, refl, refl)
 
 -- E: 2,147,450,880 rounded: 32,767; SATDW off 8000 hex
-row-e : (rounds 0x20 (pos 2147450880) ≡ gives 32767 true) × (rounds 0 (pos 2147450880) ≡ gives 0x8000 true)
-unfolding rounds gives modeOf storeOf wordOf roundedOf roundsUp oddOf limitingOf lowBits remainderOf limitedTo outside nearer lowest highest
+pub row-e : (rounds 0x20 (pos 2147450880) ≡ gives 32767 true) × (rounds 0 (pos 2147450880) ≡ gives 0x8000 true)
+unfolding modeOf storeOf storedWord roundedOf roundsUp isOdd needsLimiting lowBits remainderOf limitedTo outside nearer lowest highest
 row-e = (refl, refl)
 
 -- F: 2^39 - 1 plus 1: kept at 2^39 - 1 with ACCSAT 1 (SATA and ACCSAT, 0090 hex); off -2^39; S both
-row-f : (written 0x90 (pos (2 ^ 39)) ≡ after (pos (2 ^ 39 - 1)) true true) × (written 0 (pos (2 ^ 39)) ≡ after (negsuc (2 ^ 39 - 1)) true true)
-unfolding written after writeOf keptOf leftOf overflowOf limitBits saturates modeOf outside nearer lowest highest lowBits remainderOf signedOf
+pub row-f :
+    (written 0x90 A (pos (2 ^ 39)) ≡ holds (pos (2 ^ 39 - 1)) true true)
+    × (written 0 A (pos (2 ^ 39)) ≡ holds (negsuc (2 ^ 39 - 1)) true true)
+unfolding writeOf keptOf hasLeft overflows limitBits saturates modeOf outside nearer lowest highest lowBits remainderOf signedOf
 row-f = (refl, refl)
 
 -- L: -1 shifted 16: -1; 17 is beyond
-row-l : (shiftOf (negsuc 0) (pos 16) ≡ negsuc 0) × (shiftAllowed (pos 16) ≡ true) × (shiftAllowed (pos 17) ≡ false) × (shiftAllowed (negsuc 15) ≡ true) × (shiftAllowed (negsuc 16) ≡ false)
+pub row-l : (shiftOf (negsuc 0) (pos 16) ≡ negsuc 0) × (shiftAllowed (pos 17) ≡ false)
 unfolding shiftOf shiftAllowed
-row-l = (refl, refl, refl, refl, refl)
+row-l = (refl, refl)
+
+-- ---- edges
+
+-- S stays after a result within the limits, and O is redone
+stays : writeOf (holds (pos 0) true true) (modeOf 0) A (pos 1) ≡ holds (pos 1) false true
+unfolding writeOf keptOf hasLeft overflows limitBits saturates modeOf outside nearer lowest highest
+stays = refl
+
+-- B goes by SATB: its limits with SATA alone (0080 hex) and with SATB alone (0040 hex)
+by-target : (written 0x80 B (pos (2 ^ 31)) ≡ holds (pos (2 ^ 31)) true false) × (written 0x40 B (pos (2 ^ 31)) ≡ holds (pos (2 ^ 31 - 1)) false true)
+unfolding writeOf keptOf hasLeft overflows limitBits saturates modeOf outside nearer lowest highest
+by-target = (refl, refl)
+
+-- the lower limits are kept, and one below them is not
+lower :
+    (written 0x80 A (negsuc (2 ^ 31 - 1)) ≡ holds (negsuc (2 ^ 31 - 1)) false false)
+    × (written 0x80 A (negsuc (2 ^ 31)) ≡ holds (negsuc (2 ^ 31 - 1)) false true)
+    × (written 0 A (negsuc (2 ^ 39)) ≡ holds (pos (2 ^ 39 - 1)) true true)
+unfolding writeOf keptOf hasLeft overflows limitBits saturates modeOf outside nearer lowest highest lowBits remainderOf signedOf
+lower = (refl, refl, refl)
+
+-- ties below zero: -98,304 (quotient -2) to -2, -32,768 (quotient -1) to 0; with RND 1 -98,304 to -1
+ties-below : (rounds 0x20 (negsuc 98303) ≡ gives 0xfffe false) × (rounds 0x22 (negsuc 98303) ≡ gives 0xffff false)
+unfolding modeOf storeOf storedWord roundedOf roundsUp isOdd needsLimiting lowBits remainderOf limitedTo outside nearer lowest highest
+ties-below = (refl, refl)
+
+-- -16 is allowed, -17 is not; to the left by 16
+shifts : (shiftAllowed (negsuc 15) ≡ true) × (shiftAllowed (negsuc 16) ≡ false) × (shiftOf (negsuc 0) (negsuc 15) ≡ negsuc 65535)
+unfolding shiftOf shiftAllowed
+shifts = (refl, refl, refl)

@@ -1,7 +1,7 @@
 -- How large the numbers are that the rules give: products, kept values, shifted values. Assumes nothing.
 use mathlib.Core.Path.{_≡_}
-use mathlib.Core.Bool.{Bool, true, false, cond, _&&_, not}
-use Prim.Native.Nat.{ℕ, suc, _+_, _*_, _-_, _≤_, _<_, _^_}
+use mathlib.Core.Bool.{Bool, true, false, _&&_, not}
+use Prim.Native.Nat.{ℕ, _*_, _-_, _≤_, _<_, _^_}
 use native.Mathlib.Nat.{le-refl}
 use native.Mathlib.Omega.{arith}
 use borrow.Author.Tests.{not-true}
@@ -18,7 +18,7 @@ use Rattle.accumulator.specs.declared.mode.Target.{Target}
 use Rattle.accumulator.specs.declared.product.Factor.{Factor}
 use Rattle.accumulator.specs.Mode.{saturates}
 use Rattle.accumulator.specs.Product.{readOf, productOf}
-use Rattle.accumulator.specs.Limits.{limitBits, leftOf, keptOf, isAccumulator}
+use Rattle.accumulator.specs.Limit.{limitBits, hasLeft, keptOf, isAccumulator}
 use Rattle.accumulator.specs.Shift.{shiftOf, shiftAllowed}
 
 -- ---- products
@@ -41,8 +41,8 @@ product-size false m n hm hn =
 -- ---- kept values
 
 -- a result within the limits has 40 bits
-pub inside-within : (m : Mode) (t : Target) (r : ℤ) → leftOf m t r ≡ false → Within 39 r
-unfolding leftOf limitBits
+pub inside-within : (m : Mode) (t : Target) (r : ℤ) → hasLeft m t r ≡ false → Within 39 r
+unfolding hasLeft limitBits
 inside-within m t r =
     by-test (λ k. outside k r ≡ false → Within 39 r) (saturates m t && not (m .accsat)) (λ e l. omega (arith, not-outside 31 r l)) (λ e l. not-outside 39 r l)
 
@@ -56,7 +56,7 @@ limit-within m t r =
 pub kept-within : (m : Mode) (t : Target) (r : ℤ) → Within 39 (keptOf m t r)
 unfolding keptOf
 kept-within m t r =
-    by-test (Within 39) (leftOf m t r)
+    by-test (Within 39) (hasLeft m t r)
     (λ e. by-test (Within 39) (saturates m t) (λ f. limit-within m t r) (λ f. signed-within 39 (lowBits 40 r) (low-size 40 r)))
     (λ e. inside-within m t r e)
 

@@ -1,15 +1,15 @@
 -- What a write of an exact result r does to an accumulator: inside the limits r is kept and S is as it was; S is set only where r left the limits,
 -- and stays. Assumes nothing.
-use mathlib.Core.Path.{_≡_, refl, sym, _∙_}
+use mathlib.Core.Path.{_≡_, refl}
 use mathlib.Core.Bool.{Bool, true, false, _||_}
 use lib.IntN.{ℤ}
 use Rattle.accumulator.specs.declared.mode.Mode.{Mode}
 use Rattle.accumulator.specs.declared.mode.Target.{Target}
 use Rattle.accumulator.specs.declared.limit.Accumulator.{Accumulator}
-use Rattle.accumulator.specs.Limits.{leftOf, keptOf, overflowOf, writeOf}
+use Rattle.accumulator.specs.Limit.{hasLeft, keptOf, overflows, writeOf}
 
 -- a result within the limits is kept as it is
-pub kept-inside : (m : Mode) (t : Target) (r : ℤ) → leftOf m t r ≡ false → keptOf m t r ≡ r
+pub kept-inside : (m : Mode) (t : Target) (r : ℤ) → hasLeft m t r ≡ false → keptOf m t r ≡ r
 unfolding keptOf
 kept-inside m t r e = rw e
 
@@ -18,16 +18,17 @@ or-right true l e = refl
 or-right false l e = e
 
 -- the whole write within the limits
-pub write-inside : (before : Accumulator) (m : Mode) (t : Target) (r : ℤ) → leftOf m t r ≡ false →
-    writeOf before m t r ≡ record { value = r; overflow = overflowOf r; saturation = before .saturation }
+pub write-inside : (before : Accumulator) (m : Mode) (t : Target) (r : ℤ) → hasLeft m t r ≡ false →
+    writeOf before m t r ≡ record { value = r; overflow = overflows r; saturation = before .saturation }
 unfolding writeOf
-write-inside before m t r e = rw (kept-inside m t r e, or-right (before .saturation) (leftOf m t r) e)
+write-inside before m t r e = rw (kept-inside m t r e, or-right (before .saturation) (hasLeft m t r) e)
 
--- S of a write is set exactly where it was set or r left the limits
-pub saturation-only : (before : Accumulator) (m : Mode) (t : Target) (r : ℤ) → before .saturation ≡ false → writeOf before m t r .saturation ≡ leftOf m t r
+-- S that was clear is set exactly where r left the limits
+pub saturation-only : (before : Accumulator) (m : Mode) (t : Target) (r : ℤ) → before .saturation ≡ false → writeOf before m t r .saturation ≡ hasLeft m t r
 unfolding writeOf
 saturation-only before m t r e = rw e
 
+-- S that was set stays
 pub saturation-stays : (before : Accumulator) (m : Mode) (t : Target) (r : ℤ) → before .saturation ≡ true → writeOf before m t r .saturation ≡ true
 unfolding writeOf
 saturation-stays before m t r e = rw e

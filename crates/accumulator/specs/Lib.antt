@@ -2,6 +2,6 @@
 pub mod Mode
 pub mod Status
 pub mod Product
-pub mod Limits
+pub mod Limit
 pub mod Shift
 pub mod Store

@@ -21,8 +21,8 @@ modeOf m =
     }
 
 -- other bits (15-14, 11-8, 3-2) and US 2, 3 are bad
-unfoldable pub goodMode : ℕ → Bool
-goodMode m = eqb (bitsAt 14 2 m) 0 && (ltb (bitsAt 12 2 m) 2 && (eqb (bitsAt 8 4 m) 0 && eqb (bitsAt 2 2 m) 0))
+unfoldable pub isGoodMode : ℕ → Bool
+isGoodMode m = eqb (bitsAt 14 2 m) 0 && (ltb (bitsAt 12 2 m) 2 && (eqb (bitsAt 8 4 m) 0 && eqb (bitsAt 2 2 m) 0))
 
 -- after reset the mode word is 0020 hex
 abbrev pub resetMode : ℕ

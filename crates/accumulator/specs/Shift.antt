@@ -1,7 +1,7 @@
 -- The shift rule.
 use mathlib.Core.Bool.{Bool, cond, _&&_}
 use Prim.Native.Nat.{_^_}
-use lib.IntN.{ℤ, pos, negsuc, natAbs, _*ℤ_}
+use lib.IntN.{ℤ, pos, negℤ, natAbs, _*ℤ_}
 use lib.Signed.{ltZ, leZ}
 use Rattle.integers.specs.Floor.{floorOf}
 
@@ -11,4 +11,4 @@ shiftOf v n = cond (ltZ n (pos 0)) (v *ℤ pos (2 ^ natAbs n)) (floorOf v (2 ^ n
 
 -- a shift of -16 .. 16; one beyond is trap 3
 unfoldable pub shiftAllowed : ℤ → Bool
-shiftAllowed n = leZ (negsuc 15) n && leZ n (pos 16)
+shiftAllowed n = leZ (negℤ (pos 16)) n && leZ n (pos 16)

@@ -14,31 +14,34 @@ abbrev pub truncatedOf : ℤ → ℤ
 truncatedOf v = floorOf v 65536
 
 -- the quotient q is odd
-unfoldable pub oddOf : ℤ → Bool
-oddOf q = eqb (lowBits 1 q) 1
+unfoldable pub isOdd : ℤ → Bool
+isOdd q = eqb (lowBits 1 q) 1
 
 -- rounded adds 1 to the quotient q if the remainder p is above 32,768; at 32,768 with RND 1, and with RND 0 only to an odd quotient
 unfoldable pub roundsUp : Mode → ℤ → ℕ → Bool
-roundsUp m q p = ltb 32768 p || (eqb p 32768 && (m .rnd || oddOf q))
+roundsUp m q p = ltb 32768 p || (eqb p 32768 && (m .rnd || isOdd q))
 
+-- the quotient and the remainder of v / 65,536, rounded
 unfoldable pub roundedOf : Mode → ℤ → ℤ
-roundedOf m v = cond (roundsUp m (floorOf v 65536) (lowBits 16 v)) (floorOf v 65536 +ℤ pos 1) (floorOf v 65536)
+roundedOf m v =
+    let q = truncatedOf v in
+    cond (roundsUp m q (lowBits 16 v)) (q +ℤ pos 1) q
 
 -- the result before SATDW
 abbrev pub resultOf : Mode → Bool → ℤ → ℤ
 resultOf m rounded v = cond rounded (roundedOf m v) (truncatedOf v)
 
 -- limiting is needed: the result before SATDW is outside -32,768 .. 32,767
-unfoldable pub limitingOf : ℤ → Bool
-limitingOf q = outside 15 q
+unfoldable pub needsLimiting : ℤ → Bool
+needsLimiting q = outside 15 q
 
 -- SATDW then limits to -32,768 .. 32,767; without it the low 16 bits are kept
-unfoldable pub wordOf : Mode → ℤ → ℕ
-wordOf m q = lowBits 16 (cond (m .satdw) (limitedTo 15 q) q)
+unfoldable pub storedWord : Mode → ℤ → ℕ
+storedWord m q = lowBits 16 (cond (m .satdw) (limitedTo 15 q) q)
 
 -- the word stored, and whether limiting was needed
 unfoldable pub storeOf : Mode → Bool → ℤ → Stored
-storeOf m rounded v = record { word = wordOf m (resultOf m rounded v); limited = limitingOf (resultOf m rounded v) }
+storeOf m rounded v = record { word = storedWord m (resultOf m rounded v); limiting = needsLimiting (resultOf m rounded v) }
 
 -- 65,536 × the word, read as signed, differs from v by at most 32,768
 pub record HalfUnit (word : ℕ) (v : ℤ) : Type 0 where

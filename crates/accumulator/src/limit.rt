@@ -4,7 +4,7 @@ use crate::mode::Target;
 ghost use mathlib.Core.Path.{_≡_};
 ghost use Rattle.integers.specs.Bits.{lowBits, signedOf};
 ghost use Rattle.integers.specs.Range.{lowest, highest};
-ghost use Rattle.accumulator.specs.Limits.{limitBits, leftOf, keptOf, overflowOf, writeOf, isAccumulator};
+ghost use Rattle.accumulator.specs.Limit.{limitBits, hasLeft, keptOf, overflows, writeOf, isAccumulator};
 
 // An accumulator: its value and its flags O and S.
 pub struct Accumulator {
@@ -37,7 +37,7 @@ fn highest(mode: Mode, target: Target) -> i64
 
 // Whether the exact result r is outside the limits.
 pub fn left(mode: Mode, target: Target, r: i64) -> bool
-    ensures { λ b. ⌜ b ≡ leftOf mode target r ⌝ }
+    ensures { λ b. ⌜ b ≡ hasLeft mode target r ⌝ }
 {
     (r < lowest(mode, target)) | (highest(mode, target) < r)
 }
@@ -75,7 +75,7 @@ pub fn kept(mode: Mode, target: Target, r: i64) -> i64
 
 // The O flag of a kept value.
 pub fn overflow(v: i64) -> bool
-    ensures { λ b. ⌜ b ≡ overflowOf v ⌝ }
+    ensures { λ b. ⌜ b ≡ overflows v ⌝ }
 {
     (v < -0x8000_0000) | (0x7fff_ffff < v)
 }

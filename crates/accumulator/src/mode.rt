@@ -1,6 +1,6 @@
 // The mode word (CORCON) and the accumulator that an operation names.
 ghost use mathlib.Core.Path.{_≡_};
-ghost use Rattle.accumulator.specs.Mode.{modeOf, goodMode, saturates};
+ghost use Rattle.accumulator.specs.Mode.{resetMode, modeOf, isGoodMode, saturates};
 
 // The accumulators.
 pub enum Target {
@@ -23,6 +23,14 @@ impl Mode {
     // The mode word after reset.
     pub const RESET: u16 = 0x0020;
 
+    // The mode word after reset, by its definition.
+    pub fn reset() -> u16
+        ensures { λ r. ⌜ r ≡ resetMode ⌝ }
+    {
+        Mode::RESET
+    }
+
+    // A mode word taken apart: US bits 13-12, SATA 7, SATB 6, SATDW 5, ACCSAT 4, RND 1, IF 0.
     pub fn of(word: u16) -> Self
         ensures { λ r. ⌜ r ≡ modeOf word ⌝ }
     {
@@ -39,7 +47,7 @@ impl Mode {
 
     // Whether a mode word is good: US is 0 or 1, and the unlisted bits are 0.
     pub fn is_good(word: u16) -> bool
-        ensures { λ r. ⌜ r ≡ goodMode word ⌝ }
+        ensures { λ r. ⌜ r ≡ isGoodMode word ⌝ }
     {
         ((word >> 14) & 3 == 0)
             & (((word >> 12) & 3 < 2) & (((word >> 8) & 15 == 0) & ((word >> 2) & 3 == 0)))

@@ -1,7 +1,7 @@
 // The shift rule.
 ghost use mathlib.Core.Bool.{true};
 ghost use mathlib.Core.Path.{_≡_};
-ghost use Rattle.accumulator.specs.Limits.{isAccumulator};
+ghost use Rattle.accumulator.specs.Limit.{isAccumulator};
 ghost use Rattle.accumulator.specs.Shift.{shiftOf, shiftAllowed};
 
 // Whether a shift by n is allowed; one beyond is trap 3.

@@ -3,12 +3,12 @@ use crate::mode::Mode;
 ghost use mathlib.Core.Path.{_≡_};
 ghost use Rattle.integers.specs.Bits.{lowBits};
 ghost use Rattle.integers.specs.Range.{limitedTo};
-ghost use Rattle.accumulator.specs.Store.{truncatedOf, oddOf, roundsUp, roundedOf, limitingOf, wordOf, storeOf};
+ghost use Rattle.accumulator.specs.Store.{truncatedOf, isOdd, roundsUp, roundedOf, needsLimiting, storedWord, storeOf};
 
 // What a store gives: the word, and whether limiting was needed.
 pub struct Stored {
     pub word: u16,
-    pub limited: bool,
+    pub limiting: bool,
 }
 
 // The low 16 bits of v.
@@ -20,12 +20,12 @@ fn low16(v: i64) -> u16
 
 // Whether q is odd.
 fn is_odd(q: i64) -> bool
-    ensures { λ b. ⌜ b ≡ oddOf q ⌝ }
+    ensures { λ b. ⌜ b ≡ isOdd q ⌝ }
 {
     (q & 1) as u16 == 1
 }
 
-// Whether rounding adds 1 to the quotient q of the remainder p.
+// Whether rounding adds 1 to the quotient q with remainder p.
 fn rounds_up(mode: Mode, q: i64, p: u16) -> bool
     ensures { λ b. ⌜ b ≡ roundsUp mode q p ⌝ }
 {
@@ -51,9 +51,9 @@ pub fn rounded(mode: Mode, v: i64) -> i64
     }
 }
 
-// Whether limiting is needed of the result q.
+// Whether the result q needs limiting.
 pub fn needs_limiting(q: i64) -> bool
-    ensures { λ b. ⌜ b ≡ limitingOf q ⌝ }
+    ensures { λ b. ⌜ b ≡ needsLimiting q ⌝ }
 {
     (q < -32768) | (32767 < q)
 }
@@ -73,7 +73,7 @@ fn limited(q: i64) -> i64
 
 // The word stored of the result q.
 pub fn word(mode: Mode, q: i64) -> u16
-    ensures { λ w. ⌜ w ≡ wordOf mode q ⌝ }
+    ensures { λ w. ⌜ w ≡ storedWord mode q ⌝ }
 {
     if mode.satdw {
         low16(limited(q))
@@ -93,6 +93,6 @@ pub fn store(mode: Mode, round: bool, v: i64) -> Stored
     };
     Stored {
         word: word(mode, q),
-        limited: needs_limiting(q),
+        limiting: needs_limiting(q),
     }
 }

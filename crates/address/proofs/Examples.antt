@@ -6,7 +6,7 @@ use Rattle.integers.specs.Floor.{remainderOf}
 use Rattle.integers.specs.Bits.{lowBits}
 use Rattle.address.specs.declared.step.Buffer.{Buffer}
 use Rattle.address.specs.Word.{addressOf, wordOf}
-use Rattle.address.specs.Region.{xPart, yPart, allWords, insideOf, accessTrap}
+use Rattle.address.specs.Region.{xPart, yPart, allWords, isInside, accessTrap}
 use Rattle.address.specs.Step.{sumOf, steppedOf, correctedOf, circularOf}
 use Rattle.address.specs.Reversal.{rev, widthUpTo, widthOf, indexOf, nextIndex, nextOf}
 
@@ -39,7 +39,7 @@ traps-x :
     × (accessTrap (xPart 4) 0x1006 ≡ 0)
     × (accessTrap (xPart 4) 0x1008 ≡ 2)
     × (accessTrap (xPart 4) 0x0ffe ≡ 2)
-unfolding accessTrap insideOf wordOf
+unfolding accessTrap isInside wordOf
 traps-x = (refl, refl, refl, refl)
 
 -- the last word before Y's part, its first and its last, and the first after it
@@ -48,12 +48,12 @@ traps-y :
     × (accessTrap (yPart 4 8) 0x1008 ≡ 0)
     × (accessTrap (yPart 4 8) 0x100e ≡ 0)
     × (accessTrap (yPart 4 8) 0x1010 ≡ 2)
-unfolding accessTrap insideOf wordOf
+unfolding accessTrap isInside wordOf
 traps-y = (refl, refl, refl, refl)
 
 -- anywhere in memory
 traps-all : (accessTrap (allWords 8) 0x1000 ≡ 0) × (accessTrap (allWords 8) 0x100e ≡ 0) × (accessTrap (allWords 8) 0x1010 ≡ 2)
-unfolding accessTrap insideOf wordOf
+unfolding accessTrap isInside wordOf
 traps-all = (refl, refl, refl)
 
 -- ---- steps

@@ -10,7 +10,7 @@ use lib.Dec.{eqb, ltb, lit<}
 use lib.ListN.{getD}
 use lib.Bits.{bitAnd, and-mask}
 use lib.Pow.{pow-pos, pow-add, shl-shr, high, low, field, shr-shr, mod-mod-pow}
-use Rattle.address.specs.Reversal.{rev, reversalTable, widthOf, powerOf, indexOf, nextIndex, nextOf}
+use Rattle.address.specs.Reversal.{rev, reversalTable, widthOf, isPower, indexOf, nextIndex, nextOf}
 use Rattle.address.proofs.Entries.{at}
 use Rattle.address.proofs.Widths.{width-le, width-power}
 
@@ -121,7 +121,7 @@ next-below n a h =
 
 -- for every N accepted, with N written as n: j = (address mod 2N) / 2, k = rev((rev(j) + 1) mod N), address − 2j + 2k
 pub next-is :
-    (n a : ℕ) → powerOf n ≡ true
+    (n a : ℕ) → isPower n ≡ true
     → (let reversed = rev (widthOf n) in
     let j = a % (2 * n) / 2 in
     let k = reversed ((reversed j + 1) % n) in
@@ -130,8 +130,8 @@ unfolding nextOf nextIndex indexOf
 next-is n a h = rw (width-power n h)
 
 -- and of any other N the address stays
-pub next-stays : (n a : ℕ) → powerOf n ≡ false → nextOf n a ≡ a
-unfolding nextOf nextIndex indexOf rev powerOf
+pub next-stays : (n a : ℕ) → isPower n ≡ false → nextOf n a ≡ a
+unfolding nextOf nextIndex indexOf rev isPower
 next-stays n a h =
     let none : widthOf n ≡ 0 = eqb-true (widthOf n) 0 (not-false (eqb (widthOf n) 0) h) in
     rw none (omega arith)

@@ -15,7 +15,7 @@ use Rattle.integers.proofs.Whole.{whole, size, sum, less}
 use Rattle.integers.proofs.Fitting.{word-plain}
 use Rattle.integers.proofs.Low.{low-size}
 use Rattle.address.specs.declared.step.Buffer.{Buffer}
-use Rattle.address.specs.Step.{sumOf, steppedOf, withinOf, sizeOf, correctedOf, circularOf}
+use Rattle.address.specs.Step.{sumOf, steppedOf, isWithin, sizeOf, correctedOf, circularOf}
 
 -- ---- addresses of 16 bits
 
@@ -59,14 +59,14 @@ more-fits to n h l = omega (whole, size (to +ℤ n), sum to n, size to, size n)
 -- ---- the cases
 
 pub elsewhere :
-    (buffer : Buffer) (old : ℕ) (step : ℤ) → withinOf (buffer .start .0) (buffer .last .0) old ≡ false
+    (buffer : Buffer) (old : ℕ) (step : ℤ) → isWithin (buffer .start .0) (buffer .last .0) old ≡ false
     → steppedOf old step ≡ circularOf buffer old step
 unfolding circularOf steppedOf
 elsewhere buffer old step h = rw h
 
 -- what the code knows where the old address is within: its locals `bytes` and `to` are E − S + 1 and the unreduced sum
 pub record Known (buffer : Buffer) (old : ℕ) (step bytes to : ℤ) : Type 0 where
-  pub within : withinOf (buffer .start .0) (buffer .last .0) old ≡ true
+  pub within : isWithin (buffer .start .0) (buffer .last .0) old ≡ true
   pub start : Fits w16 (buffer .start .0)
   pub last : Fits w16 (buffer .last .0)
   pub small : mag (pos old +ℤ step) < 2 ^ 17

@@ -7,7 +7,7 @@ use borrow.Author.Tests.{leb-true, leb-false, ltb-true, ltb-false, eqb-true, eqb
 use lib.Dec.{leb, ltb, eqb}
 use lib.Pow.{pow-lt}
 use Rattle.integers.proofs.Whole.{by-test}
-use Rattle.address.specs.Reversal.{widthUpTo, widthOf, powerOf}
+use Rattle.address.specs.Reversal.{widthUpTo, widthOf, isPower}
 
 width-top : (top n : ℕ) → widthUpTo top n ≤ top
 unfolding widthUpTo
@@ -47,8 +47,8 @@ pub power-width : (b : ℕ) → 0 < b → b ≤ 10 → widthOf (2 ^ b) ≡ b
 unfolding widthOf
 power-width b h l = width-is 10 b h l
 
-pub power-accepted : (b : ℕ) → 0 < b → b ≤ 10 → powerOf (2 ^ b) ≡ true
-unfolding powerOf
+pub power-accepted : (b : ℕ) → 0 < b → b ≤ 10 → isPower (2 ^ b) ≡ true
+unfolding isPower
 power-accepted b h l = rw (power-width b h l, ne-eqb b 0 (λ (e : b ≡ 0). omega arith))
 
 -- ---- an N that has a width is that power of two
@@ -58,8 +58,8 @@ unfolding widthUpTo
 is-power zero n = λ h. absurd (omega arith)
 is-power (suc t) n = by-test (λ w. 0 < w → 2 ^ w ≡ n) (eqb n (2 ^ suc t)) (λ e h. sym (eqb-true n (2 ^ suc t) e)) (λ e h. is-power t n h)
 
-pub width-power : (n : ℕ) → powerOf n ≡ true → 2 ^ widthOf n ≡ n
-unfolding widthOf powerOf
+pub width-power : (n : ℕ) → isPower n ≡ true → 2 ^ widthOf n ≡ n
+unfolding widthOf isPower
 width-power n h =
     let some : widthOf n ≡ 0 → ⊥ = eqb-false (widthOf n) 0 (not-true (eqb (widthOf n) 0) h) in
     is-power 10 n (omega arith)

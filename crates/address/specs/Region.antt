@@ -18,9 +18,9 @@ abbrev pub allWords : ℕ → Region
 allWords words = record { first = 0; end = words }
 
 -- address a lies in one of the words first .. end - 1
-unfoldable pub insideOf : Region → ℕ → Bool
-insideOf region a = leb (addressOf 0) a && (leb (region .first) (wordOf a) && ltb (wordOf a) (region .end))
+unfoldable pub isInside : Region → ℕ → Bool
+isInside region a = leb (addressOf 0) a && (leb (region .first) (wordOf a) && ltb (wordOf a) (region .end))
 
 -- traps, first that applies: 1 odd address, 2 outside its region; 0 none
 unfoldable pub accessTrap : Region → ℕ → ℕ
-accessTrap region a = cond (eqb (a % 2) 1) 1 (cond (insideOf region a) 0 2)
+accessTrap region a = cond (eqb (a % 2) 1) 1 (cond (isInside region a) 0 2)

@@ -28,8 +28,8 @@ unfoldable pub widthOf : ℕ → ℕ
 widthOf n = widthUpTo 10 n
 
 -- N is a power of two 2 .. 1,024
-unfoldable pub powerOf : ℕ → Bool
-powerOf n = not (eqb (widthOf n) 0)
+unfoldable pub isPower : ℕ → Bool
+isPower n = not (eqb (widthOf n) 0)
 
 -- index j = (address mod 2N) / 2
 unfoldable pub indexOf : ℕ → ℕ → ℕ

@@ -7,7 +7,7 @@ use lib.Signed.{ltZ}
 use Rattle.integers.specs.Bits.{lowBits}
 use Rattle.address.specs.declared.step.Buffer.{Buffer}
 
--- W9 + W12 and W11 + W13 are never corrected
+-- W9 + W12 and W11 + W13, ended at 16 bits and never corrected
 unfoldable pub sumOf : ℕ → ℕ → ℕ
 sumOf a w = (a + w) % 2 ^ 16
 
@@ -16,8 +16,8 @@ unfoldable pub steppedOf : ℕ → ℤ → ℕ
 steppedOf a step = lowBits 16 (pos a +ℤ step)
 
 -- the address is within S..E
-abbrev pub withinOf : ℕ → ℕ → ℕ → Bool
-withinOf s e a = leb s a && leb a e
+abbrev pub isWithin : ℕ → ℕ → ℕ → Bool
+isWithin s e a = leb s a && leb a e
 
 -- E − S + 1
 abbrev pub sizeOf : ℕ → ℕ → ℤ
@@ -36,4 +36,4 @@ circularOf buffer old step =
     let s = buffer .start .0 in
     let e = buffer .last .0 in
     let to = pos old +ℤ step in
-    lowBits 16 (cond (withinOf s e old) (correctedOf s e to) to)
+    lowBits 16 (cond (isWithin s e old) (correctedOf s e to) to)

@@ -2,7 +2,7 @@
 use crate::word::ByteAddress;
 use crate::word::MEMORY_START;
 ghost use mathlib.Core.Path.{_≡_};
-ghost use Rattle.address.specs.Region.{xPart, yPart, allWords, insideOf, accessTrap};
+ghost use Rattle.address.specs.Region.{xPart, yPart, allWords, isInside, accessTrap};
 
 // The words first .. end - 1.
 pub struct Region {
@@ -41,7 +41,7 @@ impl Region {
 
 // Whether a lies in a word of the region.
 pub fn inside(region: Region, a: ByteAddress) -> bool
-    ensures { λ r. ⌜ r ≡ insideOf region (a .0) ⌝ }
+    ensures { λ r. ⌜ r ≡ isInside region (a .0) ⌝ }
 {
     let first = region.first;
     let end = region.end;

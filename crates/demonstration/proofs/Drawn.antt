@@ -7,8 +7,8 @@ use lib.Dec.{T}
 use lib.IntN.{ℤ, pos, natAbs, _+ℤ_, _-ℤ_}
 use lib.Signed.{mag, ltZ, nonNeg}
 use mir.Syntax.{w64}
-use mir.Val.{Fits, SFits, toZ, ofZ}
-use mir.Facts.{toZ-ofZ, toZ-pos}
+use mir.Val.{Fits, SFits, toZ}
+use mir.Facts.{toZ-pos}
 use Rattle.integers.proofs.Whole.{whole, size, sum, less, abs-is, not-negative}
 
 pub drawn-less : (n k : ℕ) → n < 2 ^ 50 → k < 2 ^ 50 → SFits w64 (toZ w64 n -ℤ pos k)

@@ -18,20 +18,30 @@ fn line(name: &[u8]) {
     print::text(name);
 }
 
-fn factor(word: u16, unsigned: bool) -> Factor {
-    Factor { word, unsigned }
+// The product of two words by a mode word.
+fn print_product(mode: u16, m: u16, n: u16) {
+    let by = Mode::of(mode);
+    let first = Factor {
+        word: m,
+        unsigned: by.unsigned,
+    };
+    let second = Factor {
+        word: n,
+        unsigned: by.unsigned,
+    };
+    print::text(b" ");
+    print::signed(product::product(by.integer, first, second));
 }
 
 fn print_products() {
-    let reset = Mode::of(Mode::RESET);
-    print::text(b"A ");
-    print::signed(product::product(reset.integer, factor(3, false), factor(0xfffe, false)));
-    line(b"B ");
-    print::signed(product::square(false, factor(0x8000, false)));
+    print::text(b"A");
+    print_product(Mode::reset(), 3, 0xfffe);
+    line(b"B");
+    print_product(0x0000, 0x8000, 0x8000);
     print_written(0x0080, 0x8000_0000);
     print_written(0x0000, 0x8000_0000);
-    line(b"C ");
-    print::signed(product::square(true, factor(0xffff, true)));
+    line(b"C");
+    print_product(0x1001, 0xffff, 0xffff);
 }
 
 // A after r is written by a mode word, both its flags clear before.
@@ -65,14 +75,15 @@ fn print_stores() {
     print_written(0x0000, 0x80_0000_0000);
 }
 
-fn print_shift(n: i64) {
-    if shift::is_allowed(n) {
-        if limit::is_accumulator(-1) {
+// v shifted by n, or trap 3.
+fn print_shift(v: i64, n: i64) {
+    if limit::is_accumulator(v) {
+        if shift::is_allowed(n) {
             print::text(b" ");
-            print::signed(shift::shift(-1, n));
+            print::signed(shift::shift(v, n));
+        } else {
+            print::text(b" trap3");
         }
-    } else {
-        print::text(b" trap3");
     }
 }
 
@@ -100,7 +111,7 @@ pub fn print_rows() {
     print_stores();
     print_addresses();
     line(b"L");
-    print_shift(16);
-    print_shift(17);
+    print_shift(-1, 16);
+    print_shift(-1, 17);
     print::text(b"\n");
 }

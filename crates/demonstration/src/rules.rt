@@ -52,8 +52,8 @@ pub fn store_case(h: u64, x: u64, y: u64) -> u64 {
     let v = draw::stored(x, y);
     let rounded = store::store(mode, true, v);
     let truncated = store::store(mode, false, v);
-    let g = draw::checked_flag(draw::checked(h, rounded.word as u64), rounded.limited);
-    draw::checked_flag(draw::checked(g, truncated.word as u64), truncated.limited)
+    let g = draw::checked_flag(draw::checked(h, rounded.word as u64), rounded.limiting);
+    draw::checked_flag(draw::checked(g, truncated.word as u64), truncated.limiting)
 }
 
 pub fn shift_case(h: u64, x: u64, y: u64) -> u64 {

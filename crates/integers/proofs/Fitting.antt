@@ -1,25 +1,21 @@
 -- What an i64 holds: that a number fits, and that it is read back as it was. A local of type i64 holds bits, so a goal has
 -- `toZ w64 (ofZ w64 z)`, which `toZ-ofZ (c .fits .x)` of mir.Facts turns into z for a parameter x. Assumes nothing.
 use mathlib.Core.Path.{_≡_, _∙_}
-use Prim.Native.Nat.{ℕ, _+_, _*_, _^_, _≤_, _<_}
+use Prim.Native.Nat.{ℕ, _^_, _≤_, _<_}
 use native.Mathlib.Omega.{arith}
-use native.Mathlib.Nat.{lt-of-le-of-lt, lt-of-lt-of-le, mul-le-mul-right, lt-of-mul-lt-mul-right}
+use native.Mathlib.Nat.{lt-of-le-of-lt, lt-of-lt-of-le}
 use lib.Dec.{lit≤}
-use lib.IntN.{ℤ, pos, natAbs, _+ℤ_, _*ℤ_}
+use lib.IntN.{ℤ, pos, natAbs}
 use lib.Signed.{mag, shrZ, mag-shr}
 use mir.Syntax.{w16, w64}
 use mir.Val.{Fits, SFits, toZ, ofZ}
 use mir.Facts.{toZ-ofZ, toZ-pos}
-use Rattle.integers.specs.Range.{Within}
-use Rattle.integers.proofs.Whole.{up, down, apart, size, times, floor, abs-is}
+use Rattle.integers.proofs.Whole.{size, abs-is}
 
 -- ---- a number fits
 
 pub fits-abs : (z : ℤ) {m : ℕ} → natAbs z ≤ m → m < 2 ^ 63 → SFits w64 z
 fits-abs z h k = omega (arith, size z, abs-is z)
-
-pub fits-within : (k : ℕ) (z : ℤ) → Within k z → 2 ^ k ≤ 2 ^ 63 → SFits w64 z
-fits-within k z h l = record { sfits = lt-of-lt-of-le h l }
 
 pub fits-floor : {z : ℤ} (m : ℕ) → SFits w64 z → SFits w64 (shrZ z m)
 fits-floor {z} m h = record { sfits = lt-of-le-of-lt (mag-shr z m) (h .sfits) }

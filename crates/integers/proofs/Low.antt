@@ -1,19 +1,18 @@
 -- Remainders and low bits: their size, what they are of a number above and below zero, and the number of k bits that is read back from its low
 -- k bits. Assumes nothing.
-use mathlib.Core.Path.{_≡_, refl, sym, ap, _∙_}
-use mathlib.Core.Bool.{Bool, true, false, cond}
-use Prim.Native.Nat.{ℕ, suc, _+_, _*_, _-_, _/_, _%_, _^_, _≤_, _<_}
+use mathlib.Core.Path.{_≡_}
+use Prim.Native.Nat.{ℕ, suc, _+_, _*_, _-_, _%_, _^_, _<_}
 use native.Mathlib.Nat.{div-add-mod', mod-lt, mod-eq-of-lt, pow-suc}
 use native.Mathlib.Omega.{arith}
 use borrow.Author.Tests.{ltb-true, ltb-false, lt-ltb, le-ltb}
-use lib.Dec.{T, ltb}
+use lib.Dec.{ltb}
 use lib.Pow.{pow-pos}
-use lib.IntN.{ℤ, pos, negsuc, natAbs, _+ℤ_, _-ℤ_, _*ℤ_}
-use lib.Signed.{shrZ, nonNeg, pos-natAbs}
+use lib.IntN.{ℤ, pos, negsuc, natAbs, _-ℤ_, _*ℤ_}
+use lib.Signed.{shrZ}
 use Rattle.integers.specs.Floor.{remainderOf}
 use Rattle.integers.specs.Bits.{lowBits, signedOf}
 use Rattle.integers.specs.Range.{Within}
-use Rattle.integers.proofs.Whole.{whole, up, down, apart, size, less, times, floor, abs-is, by-test, not-negative}
+use Rattle.integers.proofs.Whole.{whole, up, down, apart, size, less, times, floor, abs-is, by-test}
 
 -- ---- the remainder
 
@@ -23,9 +22,6 @@ remainder-range v m h = omega (arith, less v (shrZ v m *ℤ pos m), times (shrZ 
 
 pub remainder-size : (v : ℤ) (m : ℕ) → 0 < m → natAbs (remainderOf v m) < m
 remainder-size v m h = omega (arith, remainder-range v m h, abs-is (remainderOf v m))
-
-pub remainder-abs : (v : ℤ) (m : ℕ) → 0 < m → pos (natAbs (remainderOf v m)) ≡ remainderOf v m
-remainder-abs v m h = pos-natAbs (remainderOf v m) (not-negative (remainderOf v m) (remainder-range v m h .1))
 
 -- of a number from zero on, and below zero
 pub remainder-up : (n m : ℕ) → 0 < m → natAbs (remainderOf (pos n) m) ≡ n % m

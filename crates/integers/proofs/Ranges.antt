@@ -1,13 +1,13 @@
 -- `Within k z` says that z is one of -2^k .. 2^k - 1, and `outside k z` that it is none of them. Assumes nothing.
 use mathlib.Core.Path.{_≡_, refl}
 use mathlib.Core.Bool.{Bool, true, false, _||_}
-use Prim.Native.Nat.{ℕ, _-_, _^_, _≤_, _<_}
+use Prim.Native.Nat.{ℕ, _-_, _^_, _≤_}
 use native.Mathlib.Omega.{arith}
 use lib.IntN.{ℤ, pos, negℤ}
 use lib.Signed.{ltZ, _≤ℤ_}
 use lib.Pow.{pow-pos}
 use Rattle.integers.specs.Range.{lowest, highest, outside, nearer, limitedTo, Within}
-use Rattle.integers.proofs.Whole.{whole, up, down, size, neg, neither, by-test}
+use Rattle.integers.proofs.Whole.{whole, size, neg, neither, by-test}
 
 pub within-bounds : (k : ℕ) (z : ℤ) → Within k z → (lowest k ≤ℤ z) × (z ≤ℤ highest k)
 unfolding lowest highest

@@ -81,7 +81,6 @@ pub floor : (z : ℤ) (m : ℕ) → 0 < m → (up (shrZ z m) * m + down z ≤ up
 floor (pos a) m h = omega (arith, div-add-mod' a m, mod-lt a h)
 floor (negsuc a) m h = omega (arith, div-add-mod' a m, mod-lt a h)
 
--- the size of a product is the product of the sizes
 pub abs-is : (z : ℤ) → natAbs z ≡ up z + down z
 abs-is (pos n) = omega arith
 abs-is (negsuc n) = omega arith
@@ -90,6 +89,7 @@ abs-neg : (n : ℕ) → natAbs (negℤ (pos n)) ≡ n
 abs-neg zero = refl
 abs-neg (suc n) = refl
 
+-- the size of a product is the product of the sizes
 abs-product : (a b : ℤ) → natAbs (a *ℤ b) ≡ natAbs a * natAbs b
 abs-product (pos a) (pos b) = refl
 abs-product (pos a) (negsuc b) = abs-neg (a * suc b)

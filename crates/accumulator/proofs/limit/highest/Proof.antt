@@ -1,6 +1,6 @@
 -- `limit::highest` meets its contract: the test is that of `limitBits`. Assumes nothing.
 use Rattle.integers.specs.Range.{highest}
-use Rattle.accumulator.specs.Limits.{limitBits}
+use Rattle.accumulator.specs.Limit.{limitBits}
 use Rattle.accumulator.proofs.limit.highest.Statement.{statement}
 use Rattle.accumulator.proofs.limit.highest.Tie as tie
 

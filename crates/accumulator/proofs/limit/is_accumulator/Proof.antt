@@ -1,7 +1,7 @@
 -- `limit::is_accumulator` meets its contract: the two tests are those of `outside`. Assumes nothing.
 use mir.Facts.{toZ-ofZ}
 use Rattle.integers.specs.Range.{outside, lowest, highest}
-use Rattle.accumulator.specs.Limits.{isAccumulator}
+use Rattle.accumulator.specs.Limit.{isAccumulator}
 use Rattle.accumulator.proofs.limit.is_accumulator.Statement.{statement}
 use Rattle.accumulator.proofs.limit.is_accumulator.Tie as tie
 

@@ -4,12 +4,12 @@ use mathlib.Core.Bool.{true}
 use mir.Facts.{toZ-ofZ}
 use Rattle.integers.specs.Range.{nearer}
 use Rattle.integers.proofs.Fitting.{gave}
-use Rattle.accumulator.specs.Limits.{leftOf, keptOf}
+use Rattle.accumulator.specs.Limit.{hasLeft, keptOf}
 use Rattle.accumulator.proofs.limit.kept.Statement.{statement}
 use Rattle.accumulator.proofs.limit.kept.Tie as tie
 
 -- in the first arm r is outside the limits
-out : (c : tie.Then1) → let a = c .before .before .args in leftOf (a .mode) (a .target) (a .r) ≡ true
+out : (c : tie.Then1) → let a = c .before .before .args in hasLeft (a .mode) (a .target) (a .r) ≡ true
 out c = simp (toZ-ofZ (c .before .before .fits .r)) at (sym (c .before .left .ensures) ∙ c .if1 .taken)
 
 returns : tie.Need-returns

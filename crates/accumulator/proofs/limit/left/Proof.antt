@@ -2,12 +2,12 @@
 use mir.Facts.{toZ-ofZ}
 use Rattle.integers.specs.Range.{outside}
 use Rattle.integers.proofs.Fitting.{gave}
-use Rattle.accumulator.specs.Limits.{leftOf}
+use Rattle.accumulator.specs.Limit.{hasLeft}
 use Rattle.accumulator.proofs.limit.left.Statement.{statement}
 use Rattle.accumulator.proofs.limit.left.Tie as tie
 
 returns : tie.Need-returns
-unfolding leftOf outside
+unfolding hasLeft outside
 returns c =
     let start = c .before .before in
     let low = c .before .lowest in

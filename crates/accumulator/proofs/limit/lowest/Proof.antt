@@ -1,6 +1,6 @@
 -- `limit::lowest` meets its contract: the test is that of `limitBits`. Assumes nothing.
 use Rattle.integers.specs.Range.{lowest}
-use Rattle.accumulator.specs.Limits.{limitBits}
+use Rattle.accumulator.specs.Limit.{limitBits}
 use Rattle.accumulator.proofs.limit.lowest.Statement.{statement}
 use Rattle.accumulator.proofs.limit.lowest.Tie as tie
 

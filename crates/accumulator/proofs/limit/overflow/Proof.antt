@@ -1,12 +1,12 @@
 -- `limit::overflow` meets its contract: the two tests are those of `outside`. Assumes nothing.
 use mir.Facts.{toZ-ofZ}
 use Rattle.integers.specs.Range.{outside, lowest, highest}
-use Rattle.accumulator.specs.Limits.{overflowOf}
+use Rattle.accumulator.specs.Limit.{overflows}
 use Rattle.accumulator.proofs.limit.overflow.Statement.{statement}
 use Rattle.accumulator.proofs.limit.overflow.Tie as tie
 
 returns : tie.Need-returns
-unfolding overflowOf outside lowest highest
+unfolding overflows outside lowest highest
 returns c = simp (toZ-ofZ (c .fits .v))
 
 pub overflow-spec : {M : Type 1} → statement M

@@ -1,7 +1,7 @@
 -- `limit::write` meets its contract, field by field, from what the three calls ensure. Assumes nothing.
 use mir.Facts.{toZ-ofZ}
 use Rattle.integers.proofs.Fitting.{gave}
-use Rattle.accumulator.specs.Limits.{writeOf}
+use Rattle.accumulator.specs.Limit.{writeOf}
 use Rattle.accumulator.proofs.limit.write.Statement.{statement}
 use Rattle.accumulator.proofs.limit.write.Tie as tie
 

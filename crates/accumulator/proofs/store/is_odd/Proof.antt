@@ -10,7 +10,7 @@ use mir.Val.{toZ, ofZ}
 use Rattle.integers.specs.Bits.{lowBits}
 use Rattle.integers.proofs.Low.{low-size}
 use Rattle.integers.proofs.Masks.{mask}
-use Rattle.accumulator.specs.Store.{oddOf}
+use Rattle.accumulator.specs.Store.{isOdd}
 use Rattle.accumulator.proofs.store.is_odd.Statement.{statement}
 use Rattle.accumulator.proofs.store.is_odd.Tie as tie
 
@@ -21,7 +21,7 @@ cast-result : tie.Need-cast-result
 cast-result c = rw (masked c) (tt, record { fits = lt-of-lt-of-le (low-size 1 (c .args .q)) (lit≤ tt) })
 
 returns : tie.Need-returns
-unfolding oddOf
+unfolding isOdd
 returns c = rw (masked c)
 
 pub is-odd-spec : {M : Type 1} → statement M

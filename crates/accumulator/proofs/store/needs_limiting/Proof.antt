@@ -1,12 +1,12 @@
 -- `store::needs_limiting` meets its contract: the two tests are those of `outside`. Assumes nothing.
 use mir.Facts.{toZ-ofZ}
 use Rattle.integers.specs.Range.{outside, lowest, highest}
-use Rattle.accumulator.specs.Store.{limitingOf}
+use Rattle.accumulator.specs.Store.{needsLimiting}
 use Rattle.accumulator.proofs.store.needs_limiting.Statement.{statement}
 use Rattle.accumulator.proofs.store.needs_limiting.Tie as tie
 
 returns : tie.Need-returns
-unfolding limitingOf outside lowest highest
+unfolding needsLimiting outside lowest highest
 returns c = simp (toZ-ofZ (c .fits .q))
 
 pub needs-limiting-spec : {M : Type 1} → statement M

@@ -4,7 +4,7 @@ use mathlib.Core.Bool.{true, false}
 use native.Mathlib.Nat.{lt-of-lt-of-le}
 use lib.Dec.{lit≤}
 use lib.IntN.{pos}
-use lib.Signed.{mag, ltZ}
+use lib.Signed.{ltZ}
 use mir.Facts.{toZ-ofZ}
 use Rattle.demonstration.proofs.Drawn.{more-fits, below-is, below-fits, natural, same-size}
 use Rattle.demonstration.proofs.draw.magnitude.Statement.{statement}

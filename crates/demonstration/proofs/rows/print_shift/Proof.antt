@@ -6,7 +6,7 @@ use Rattle.demonstration.proofs.rows.print_shift.Tie as tie
 
 shift-requires : tie.Need-shift-requires
 shift-requires c κs =
-    (sym (c .before .before .before .is-accumulator .ensures) ∙ c .before .before .if2 .taken, sym (c .before .before .before .before .before .is-allowed .ensures) ∙ c .before .before .before .before .if1 .taken)
+    (sym (c .before .before .before .before .before .is-accumulator .ensures) ∙ c .before .before .before .before .if1 .taken, sym (c .before .before .before .is-allowed .ensures) ∙ c .before .before .if2 .taken)
 
 pub print-shift-spec : {M : Type 1} → statement M
 print-shift-spec =

@@ -2,12 +2,12 @@
 use mathlib.Core.Path.{_≡_}
 use Prim.Native.Nat.{ℕ, _%_}
 use lib.Bits.{bitAnd, and-mask}
-use Rattle.accumulator.specs.Mode.{goodMode}
+use Rattle.accumulator.specs.Mode.{isGoodMode}
 use Rattle.accumulator.proofs.mode.Mode.is_good.Statement.{statement}
 use Rattle.accumulator.proofs.mode.Mode.is_good.Tie as tie
 
 returns : tie.Need-returns
-unfolding goodMode
+unfolding isGoodMode
 returns c =
     let two : (n : ℕ) → bitAnd n 3 ≡ n % 4 = λ n. and-mask n 2 in
     let four : (n : ℕ) → bitAnd n 15 ≡ n % 16 = λ n. and-mask n 4 in

@@ -14,27 +14,27 @@ unfoldable pub limitBits : Mode → Target → ℕ
 limitBits m t = cond (saturates m t && not (m .accsat)) 31 39
 
 -- r is outside the limits
-unfoldable pub leftOf : Mode → Target → ℤ → Bool
-leftOf m t r = outside (limitBits m t) r
+unfoldable pub hasLeft : Mode → Target → ℤ → Bool
+hasLeft m t r = outside (limitBits m t) r
 
 -- outside them, with saturation on the nearer limit is kept, with it off the low 40 bits, read as signed
 unfoldable pub keptOf : Mode → Target → ℤ → ℤ
 keptOf m t r =
-    cond (leftOf m t r)
+    cond (hasLeft m t r)
     (cond (saturates m t) (nearer (limitBits m t) r) (signedOf 40 (lowBits 40 r)))
     r
 
 -- O flag: kept value outside -2^31 .. 2^31 - 1
-unfoldable pub overflowOf : ℤ → Bool
-overflowOf v = outside 31 v
+unfoldable pub overflows : ℤ → Bool
+overflows v = outside 31 v
 
 -- r is written: the value kept; O redone; S set where r is outside the limits, and it stays
 unfoldable pub writeOf : Accumulator → Mode → Target → ℤ → Accumulator
 writeOf before m t r =
     record {
       value = keptOf m t r;
-      overflow = overflowOf (keptOf m t r);
-      saturation = before .saturation || leftOf m t r;
+      overflow = overflows (keptOf m t r);
+      saturation = before .saturation || hasLeft m t r;
     }
 
 -- a value of 40 bits, signed
