@@ -21,7 +21,7 @@ isOdd q = eqb (lowBits 1 q) 1
 unfoldable pub roundsUp : Mode → ℤ → ℕ → Bool
 roundsUp m q p = ltb 32768 p || (eqb p 32768 && (m .rnd || isOdd q))
 
--- the quotient and the remainder of v / 65,536, rounded
+-- rounded: the quotient q of v / 65,536, or 1 more; the remainder is v's low 16 bits
 unfoldable pub roundedOf : Mode → ℤ → ℤ
 roundedOf m v =
     let q = truncatedOf v in

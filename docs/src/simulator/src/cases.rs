@@ -36,6 +36,15 @@ pub struct Case {
     pub state: State,
 }
 
+impl Case {
+    /// The run under a budget, and the memory that it leaves.
+    pub fn run(&self, budget: u32) -> (Outcome, Vec<u16>) {
+        let mut memory = self.memory.clone();
+        let outcome = run(&self.file, &self.settings, &self.state, &mut memory, budget);
+        (outcome, memory)
+    }
+}
+
 /// Why no case came.
 #[derive(Clone, Copy, Debug, PartialEq, Eq)]
 pub enum NoCase {
@@ -149,14 +158,7 @@ pub fn check(numbers: impl Iterator<Item = u32>) -> u32 {
 pub fn line(case: &Case) -> String {
     match case.what {
         What::Run => {
-            let mut memory = case.memory.clone();
-            let outcome = run(
-                &case.file,
-                &case.settings,
-                &case.state,
-                &mut memory,
-                case.budget,
-            );
+            let (outcome, memory) = case.run(case.budget);
             run_line(&outcome, &memory)
         }
         What::Load => lent_line("loaded", case.budget, |out| load(&case.file, out)),

@@ -8,7 +8,7 @@ use simulator::generate::case::{accepted_run, candidate};
 use simulator::generate::random::Random;
 use simulator::ledger::{LedgerEnding, LedgerOutcome, ListedStore};
 use simulator::operand::Place;
-use simulator::{ledger_run, run, Ending, Outcome, Trap};
+use simulator::{ledger_run, Ending, Outcome, Trap};
 
 #[derive(Debug, Default)]
 struct Seen {
@@ -29,12 +29,6 @@ struct Seen {
     mid_loop: usize,
     mid_repeat: usize,
     steps: u64,
-}
-
-fn engine_run(case: &Case, budget: u32) -> (Outcome, Vec<u16>) {
-    let mut memory = case.memory.clone();
-    let outcome = run(&case.file, &case.settings, &case.state, &mut memory, budget);
-    (outcome, memory)
 }
 
 fn ledger_of(case: &Case) -> LedgerOutcome {
@@ -62,7 +56,7 @@ fn end_alike(outcome: &Outcome, memory: &[u16], ledger: &LedgerOutcome) {
 
 /// The engine's stored word at a store's step, by a run of its own.
 fn engine_word(case: &Case, store: &ListedStore) -> i128 {
-    let (outcome, memory) = engine_run(case, store.step);
+    let (outcome, memory) = case.run(store.step);
     assert_eq!(outcome.steps, store.step);
     let word = match store.place {
         Place::Register(register) => outcome.state.w[usize::from(register)],
@@ -108,7 +102,7 @@ fn check_stores(random: &mut Random, case: &Case, ledger: &LedgerOutcome, seen: 
 fn check_run(random: &mut Random, mut case: Case, seen: &mut Seen) {
     case.state.saturated = [false; 2];
     case.budget = case.budget.min(20_000);
-    let (outcome, memory) = engine_run(&case, case.budget);
+    let (outcome, memory) = case.run(case.budget);
     let ledger = ledger_of(&case);
     assert!(!matches!(outcome.ending, Ending::Refused(_)));
     let left = ledger.ending == LedgerEnding::Left;

@@ -6,7 +6,6 @@ use super::random::Random;
 use super::start;
 use crate::cases::{Case, What};
 use crate::encode::encode_all;
-use crate::engine::run;
 use crate::file::{write, BLOCK, FULL, MOST_OPERATIONS};
 use crate::operation::Operation;
 use crate::settings::Settings;
@@ -83,14 +82,7 @@ pub fn accepted_run(random: &mut Random, clears: bool) -> Case {
 }
 
 fn steps_of(case: &Case) -> u32 {
-    let mut memory = case.memory.clone();
-    let outcome = run(
-        &case.file,
-        &case.settings,
-        &case.state,
-        &mut memory,
-        case.budget,
-    );
+    let (outcome, _) = case.run(case.budget);
     outcome.steps
 }
 
