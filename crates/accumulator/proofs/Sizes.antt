@@ -40,6 +40,10 @@ product-size false m n hm hn =
 
 -- ---- kept values
 
+pub bits-le : (m : Mode) (t : Target) → limitBits m t ≤ 39
+unfolding limitBits
+bits-le m t = by-test (λ k. k ≤ 39) (saturates m t && not (m .accsat)) (λ e. omega arith) (λ e. omega arith)
+
 -- a result within the limits has 40 bits
 pub inside-within : (m : Mode) (t : Target) (r : ℤ) → hasLeft m t r ≡ false → Within 39 r
 unfolding hasLeft limitBits

@@ -3,6 +3,7 @@
 pub mod limit;
 pub mod mode;
 pub mod product;
+mod range;
 pub mod shift;
 pub mod status;
 pub mod store;

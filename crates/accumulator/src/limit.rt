@@ -1,9 +1,9 @@
 // Limits, the value kept of an exact result, and the flags.
 use crate::mode::Mode;
 use crate::mode::Target;
+use crate::range;
 ghost use mathlib.Core.Path.{_≡_};
 ghost use Rattle.integers.specs.Bits.{lowBits, signedOf};
-ghost use Rattle.integers.specs.Range.{lowest, highest};
 ghost use Rattle.accumulator.specs.Limit.{limitBits, hasLeft, keptOf, overflows, writeOf, isAccumulator};
 
 // An accumulator: its value and its flags O and S.
@@ -13,25 +13,14 @@ pub struct Accumulator {
     pub saturation: bool,
 }
 
-// The lower limit.
-fn lowest(mode: Mode, target: Target) -> i64
-    ensures { λ r. ⌜ r ≡ lowest (limitBits mode target) ⌝ }
+// The limits are -2^k .. 2^k - 1 with this k.
+fn limit_bits(mode: Mode, target: Target) -> u32
+    ensures { λ k. ⌜ k ≡ limitBits mode target ⌝ }
 {
     if mode.saturates(target) & !mode.accsat {
-        -0x8000_0000
+        31
     } else {
-        -0x80_0000_0000
-    }
-}
-
-// The upper limit.
-fn highest(mode: Mode, target: Target) -> i64
-    ensures { λ r. ⌜ r ≡ highest (limitBits mode target) ⌝ }
-{
-    if mode.saturates(target) & !mode.accsat {
-        0x7fff_ffff
-    } else {
-        0x7f_ffff_ffff
+        39
     }
 }
 
@@ -39,7 +28,7 @@ fn highest(mode: Mode, target: Target) -> i64
 pub fn left(mode: Mode, target: Target, r: i64) -> bool
     ensures { λ b. ⌜ b ≡ hasLeft mode target r ⌝ }
 {
-    (r < lowest(mode, target)) | (highest(mode, target) < r)
+    range::outside(limit_bits(mode, target), r)
 }
 
 // The low 40 bits of r, read as signed.
@@ -60,11 +49,7 @@ pub fn kept(mode: Mode, target: Target, r: i64) -> i64
 {
     if left(mode, target, r) {
         if mode.saturates(target) {
-            if r < 0 {
-                lowest(mode, target)
-            } else {
-                highest(mode, target)
-            }
+            range::nearer(limit_bits(mode, target), r)
         } else {
             low40(r)
         }
@@ -77,7 +62,7 @@ pub fn kept(mode: Mode, target: Target, r: i64) -> i64
 pub fn overflow(v: i64) -> bool
     ensures { λ b. ⌜ b ≡ overflows v ⌝ }
 {
-    (v < -0x8000_0000) | (0x7fff_ffff < v)
+    range::outside(31, v)
 }
 
 // The accumulator after a write of the exact result r.
@@ -96,5 +81,5 @@ pub fn write(before: Accumulator, mode: Mode, target: Target, r: i64) -> Accumul
 pub fn is_accumulator(v: i64) -> bool
     ensures { λ b. ⌜ b ≡ isAccumulator v ⌝ }
 {
-    !((v < -0x80_0000_0000) | (0x7f_ffff_ffff < v))
+    !range::outside(39, v)
 }

@@ -23,7 +23,7 @@ impl Mode {
     // The mode word after reset.
     pub const RESET: u16 = 0x0020;
 
-    // The mode word after reset, by its definition.
+    // The mode word after reset, with the contract that a constant cannot have.
     pub fn reset() -> u16
         ensures { λ r. ⌜ r ≡ resetMode ⌝ }
     {

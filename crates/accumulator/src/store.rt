@@ -1,8 +1,8 @@
 // The store of an accumulator's value as a word.
 use crate::mode::Mode;
+use crate::range;
 ghost use mathlib.Core.Path.{_≡_};
 ghost use Rattle.integers.specs.Bits.{lowBits};
-ghost use Rattle.integers.specs.Range.{limitedTo};
 ghost use Rattle.accumulator.specs.Store.{truncatedOf, isOdd, roundsUp, roundedOf, needsLimiting, storedWord, storeOf};
 
 // What a store gives: the word, and whether limiting was needed.
@@ -55,20 +55,7 @@ pub fn rounded(mode: Mode, v: i64) -> i64
 pub fn needs_limiting(q: i64) -> bool
     ensures { λ b. ⌜ b ≡ needsLimiting q ⌝ }
 {
-    (q < -32768) | (32767 < q)
-}
-
-// q limited to -32,768 .. 32,767.
-fn limited(q: i64) -> i64
-    ensures { λ r. ⌜ r ≡ limitedTo 15 q ⌝ }
-{
-    if q < -32768 {
-        -32768
-    } else if 32767 < q {
-        32767
-    } else {
-        q
-    }
+    range::outside(15, q)
 }
 
 // The word stored of the result q.
@@ -76,7 +63,7 @@ pub fn word(mode: Mode, q: i64) -> u16
     ensures { λ w. ⌜ w ≡ storedWord mode q ⌝ }
 {
     if mode.satdw {
-        low16(limited(q))
+        low16(range::limited_to(15, q))
     } else {
         low16(q)
     }

@@ -11,7 +11,7 @@ use Rattle.address.specs.declared.step.Buffer.{Buffer}
 unfoldable pub sumOf : ℕ → ℕ → ℕ
 sumOf a w = (a + w) % 2 ^ 16
 
--- an address stepped where no correction applies
+-- an address stepped where no correction applies, ended at 16 bits
 unfoldable pub steppedOf : ℕ → ℤ → ℕ
 steppedOf a step = lowBits 16 (pos a +ℤ step)
 

@@ -1,10 +1,11 @@
 -- What an i64 holds: that a number fits, and that it is read back as it was. A local of type i64 holds bits, so a goal has
 -- `toZ w64 (ofZ w64 z)`, which `toZ-ofZ (c .fits .x)` of mir.Facts turns into z for a parameter x. Assumes nothing.
 use mathlib.Core.Path.{_≡_, _∙_}
-use Prim.Native.Nat.{ℕ, _^_, _≤_, _<_}
+use Prim.Native.Nat.{ℕ, _*_, _%_, _^_, _≤_, _<_}
 use native.Mathlib.Omega.{arith}
-use native.Mathlib.Nat.{lt-of-le-of-lt, lt-of-lt-of-le}
-use lib.Dec.{lit≤}
+use native.Mathlib.Nat.{one-mul, mod-eq-of-lt, lt-of-le-of-lt, lt-of-lt-of-le}
+use lib.Dec.{lit≤, lit<}
+use lib.Pow.{pow-mono}
 use lib.IntN.{ℤ, pos, natAbs}
 use lib.Signed.{mag, shrZ, mag-shr}
 use mir.Syntax.{w16, w64}
@@ -33,3 +34,9 @@ floor-plain m h = toZ-ofZ (fits-floor m h)
 -- a word that was cast
 pub word-plain : {n : ℕ} → Fits w16 n → toZ w64 n ≡ pos n
 word-plain h = toZ-pos w64 (lt-of-lt-of-le (h .fits) (lit≤ tt))
+
+-- 1 << k
+pub power-plain : {k : ℕ} → k ≤ 62 → toZ w64 (1 * 2 ^ k % 2 ^ 64) ≡ pos (2 ^ k)
+power-plain {k} h =
+    let small : 2 ^ k ≤ 2 ^ 62 = pow-mono h in
+    simp (one-mul, mod-eq-of-lt {m = 2 ^ 64} (lt-of-le-of-lt small (lit< tt))) (toZ-pos w64 (lt-of-le-of-lt small (lit< tt)))

@@ -52,11 +52,13 @@ low-down k n = remainder-down n (2 ^ k) (pow-pos k)
 
 -- ---- read as signed. The number has j + 1 bits
 
+top : (j : ℕ) → suc j - 1 ≡ j
+top j = omega arith
+
 pub signed-within : (j x : ℕ) → x < 2 ^ suc j → Within j (signedOf (suc j) x)
 unfolding signedOf
 signed-within j x h =
-    let top : suc j - 1 ≡ j = omega arith in
-    rw top
+    rw (top j)
     (by-test (Within j) (ltb x (2 ^ j)) (λ e. omega (arith, ltb-true x (2 ^ j) e))
     (λ e. omega (arith, ltb-false x (2 ^ j) e, size (pos x -ℤ pos (2 ^ suc j)), less (pos x) (pos (2 ^ suc j)), pow-suc 2 j)))
 
@@ -65,11 +67,9 @@ pub signed-low : (j : ℕ) (z : ℤ) → Within j z → signedOf (suc j) (lowBit
 unfolding signedOf
 signed-low j (pos n) h =
     let small : n < 2 ^ suc j = omega (arith, pow-suc 2 j) in
-    let top : suc j - 1 ≡ j = omega arith in
-    rw (top, low-up (suc j) n, mod-eq-of-lt small, lt-ltb n (2 ^ j) h)
+    rw (top j, low-up (suc j) n, mod-eq-of-lt small, lt-ltb n (2 ^ j) h)
 signed-low j (negsuc n) h =
     let x = lowBits (suc j) (negsuc n) in
     let small : n < 2 ^ suc j = omega (arith, pow-suc 2 j) in
     let all : x + n + 1 ≡ 2 ^ suc j = rw (mod-eq-of-lt small) at (low-down (suc j) n) in
-    let top : suc j - 1 ≡ j = omega arith in
-    rw (top, le-ltb x (2 ^ j) (omega (arith, pow-suc 2 j))) (omega (whole, less (pos x) (pos (2 ^ suc j))))
+    rw (top j, le-ltb x (2 ^ j) (omega (arith, pow-suc 2 j))) (omega (whole, less (pos x) (pos (2 ^ suc j))))

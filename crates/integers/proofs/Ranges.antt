@@ -38,20 +38,6 @@ unfolding nearer lowest highest
 nearer-within k z =
     by-test (Within k) (ltZ z (pos 0)) (λ e. omega (arith, size (negℤ (pos (2 ^ k))), neg (pos (2 ^ k)), pow-pos k)) (λ e. omega (arith, pow-pos k))
 
--- ---- the three cases of `limitedTo`
-
-pub limited-below : (k : ℕ) (z : ℤ) → ltZ z (lowest k) ≡ true → limitedTo k z ≡ lowest k
-unfolding limitedTo outside nearer lowest highest
-limited-below k z e =
-    let negative : ltZ z (pos 0) ≡ true = omega (whole, neg (pos (2 ^ k))) in
-    rw (e, negative)
-
-pub limited-above : (k : ℕ) (z : ℤ) → ltZ z (lowest k) ≡ false → ltZ (highest k) z ≡ true → limitedTo k z ≡ highest k
-unfolding limitedTo outside nearer lowest highest
-limited-above k z d e =
-    let positive : ltZ z (pos 0) ≡ false = omega (whole, size z) in
-    rw (d, e, positive)
-
 pub limited-inside : (k : ℕ) (z : ℤ) → outside k z ≡ false → limitedTo k z ≡ z
 unfolding limitedTo
 limited-inside k z e = rw e

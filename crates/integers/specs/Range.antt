@@ -4,9 +4,11 @@ use Prim.Native.Nat.{ℕ, _<_, _-_, _^_}
 use lib.IntN.{ℤ, pos, negℤ}
 use lib.Signed.{mag, ltZ}
 
+-- the least of them
 unfoldable pub lowest : ℕ → ℤ
 lowest k = negℤ (pos (2 ^ k))
 
+-- the greatest of them
 unfoldable pub highest : ℕ → ℤ
 highest k = pos (2 ^ k - 1)
 

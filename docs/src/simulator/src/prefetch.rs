@@ -26,30 +26,42 @@ impl Arrivals {
     }
 }
 
-/// An X read: W9 + W12 or a stepped pointer, in the first part.
-fn read_x(
-    from: ReadAddress,
-    w: &[u16; 14],
-    settings: &Settings,
-    memory: &Memory,
-) -> Result<Fetched, Trap> {
-    match from {
-        ReadAddress::Indexed => {
-            let word = memory.read_x(ByteAddress(w[9].wrapping_add(w[12])))?;
-            Ok(Fetched { word, moved: None })
+/// Which of the two reads: they differ in the sum of registers, the part of
+/// memory and the circular buffer.
+#[derive(Clone, Copy)]
+enum Side {
+    X,
+    Y,
+}
+
+impl Side {
+    /// W9 + W12 or W11 + W13, never corrected.
+    fn sum(self, w: &[u16; 14]) -> u16 {
+        match self {
+            Side::X => w[9].wrapping_add(w[12]),
+            Side::Y => w[11].wrapping_add(w[13]),
         }
-        ReadAddress::Stepped { pointer, step } => {
-            let old = w[usize::from(pointer)];
-            let word = memory.read_x(ByteAddress(old))?;
-            let to = step_outside_y(settings, pointer, old, step);
-            let moved = Some(Moved { pointer, to });
-            Ok(Fetched { word, moved })
+    }
+
+    /// X reads fall in the first part, Y reads in the rest.
+    fn word(self, memory: &Memory, address: u16) -> Result<u16, Trap> {
+        match self {
+            Side::X => memory.read_x(ByteAddress(address)),
+            Side::Y => memory.read_y(ByteAddress(address)),
+        }
+    }
+
+    fn step(self, settings: &Settings, pointer: Register, old: u16, step: i16) -> u16 {
+        match self {
+            Side::X => step_outside_y(settings, pointer, old, step),
+            Side::Y => step_in_y(settings, pointer, old, step),
         }
     }
 }
 
-/// A Y read: W11 + W13 or a stepped pointer, in the rest.
-fn read_y(
+/// A read: at the sum of two registers, or at a pointer that is then stepped.
+fn read(
+    side: Side,
     from: ReadAddress,
     w: &[u16; 14],
     settings: &Settings,
@@ -57,13 +69,13 @@ fn read_y(
 ) -> Result<Fetched, Trap> {
     match from {
         ReadAddress::Indexed => {
-            let word = memory.read_y(ByteAddress(w[11].wrapping_add(w[13])))?;
+            let word = side.word(memory, side.sum(w))?;
             Ok(Fetched { word, moved: None })
         }
         ReadAddress::Stepped { pointer, step } => {
             let old = w[usize::from(pointer)];
-            let word = memory.read_y(ByteAddress(old))?;
-            let to = step_in_y(settings, pointer, old, step);
+            let word = side.word(memory, old)?;
+            let to = side.step(settings, pointer, old, step);
             let moved = Some(Moved { pointer, to });
             Ok(Fetched { word, moved })
         }
@@ -81,15 +93,13 @@ pub fn fetch(
         words: [None; 2],
         moved: [None; 2],
     };
-    if let Some(Read { from, destination }) = prefetch.x {
-        let fetched = read_x(from, w, settings, memory)?;
-        arrivals.words[0] = Some((destination, fetched.word));
-        arrivals.moved[0] = fetched.moved;
-    }
-    if let Some(Read { from, destination }) = prefetch.y {
-        let fetched = read_y(from, w, settings, memory)?;
-        arrivals.words[1] = Some((destination, fetched.word));
-        arrivals.moved[1] = fetched.moved;
+    let sides = [(Side::X, prefetch.x), (Side::Y, prefetch.y)];
+    for (place, (side, wanted)) in sides.into_iter().enumerate() {
+        if let Some(Read { from, destination }) = wanted {
+            let fetched = read(side, from, w, settings, memory)?;
+            arrivals.words[place] = Some((destination, fetched.word));
+            arrivals.moved[place] = fetched.moved;
+        }
     }
     Ok(arrivals)
 }
@@ -101,8 +111,8 @@ pub fn fetch_difference(
     settings: &Settings,
     memory: &Memory,
 ) -> Result<Arrivals, Trap> {
-    let x = read_x(difference.x, w, settings, memory)?;
-    let y = read_y(difference.y, w, settings, memory)?;
+    let x = read(Side::X, difference.x, w, settings, memory)?;
+    let y = read(Side::Y, difference.y, w, settings, memory)?;
     let word = x.word.wrapping_sub(y.word);
     Ok(Arrivals {
         words: [Some((difference.destination, word)), None],

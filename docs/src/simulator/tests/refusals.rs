@@ -4,21 +4,22 @@ mod common;
 use common::*;
 use simulator::{load as load_file, write as write_file};
 
-/// Load with plenty of room; on refusal the lent slice is as it came.
-fn loaded(file: &[u8]) -> Result<usize, u8> {
+/// A call with plenty of room: past what it says it wrote, the lent slice is as
+/// it came.
+fn with_room(call: impl Fn(&mut [u8]) -> Result<usize, u8>) -> Result<usize, u8> {
     let mut out = vec![0xA5; 40_000];
-    let answer = load_file(file, &mut out);
+    let answer = call(&mut out);
     let kept = answer.unwrap_or(0);
     assert!(out[kept..].iter().all(|&byte| byte == 0xA5));
     answer
 }
 
+fn loaded(file: &[u8]) -> Result<usize, u8> {
+    with_room(|out| load_file(file, out))
+}
+
 fn written(bytes: &[u8]) -> Result<usize, u8> {
-    let mut out = vec![0xA5; 40_000];
-    let answer = write_file(bytes, &mut out);
-    let kept = answer.unwrap_or(0);
-    assert!(out[kept..].iter().all(|&byte| byte == 0xA5));
-    answer
+    with_room(|out| write_file(bytes, out))
 }
 
 /// One operation through loader, writer and run alike.

@@ -1,18 +1,18 @@
 -- `shift::shift` meets its contract: the amount is the size of n, and 1 << k is 2^k for k up to 16. Assumes nothing.
 use mathlib.Core.Path.{_≡_, refl}
 use mathlib.Core.Bool.{true, false}
-use Prim.Native.Nat.{ℕ, _≤_, _*_, _%_, _^_}
-use native.Mathlib.Nat.{one-mul, mod-eq-of-lt, lt-of-le-of-lt}
-use lib.Dec.{lit<}
+use Prim.Native.Nat.{ℕ, _≤_, _*_, _^_}
+use native.Mathlib.Nat.{le-trans, lt-of-le-of-lt}
+use lib.Dec.{lit<, lit≤}
 use lib.Pow.{pow-mono}
 use lib.IntN.{ℤ, pos, negsuc, natAbs, _-ℤ_, _*ℤ_}
 use lib.Signed.{ltZ}
 use mir.Syntax.{w64}
-use mir.Val.{SFits, toZ, ofZ}
-use mir.Facts.{toZ-ofZ, toZ-pos}
+use mir.Val.{SFits, ofZ}
+use mir.Facts.{toZ-ofZ}
 use Rattle.integers.specs.Range.{Within}
 use Rattle.integers.proofs.Whole.{whole, size, less, abs-is, product-le}
-use Rattle.integers.proofs.Fitting.{fits-abs, floor-plain}
+use Rattle.integers.proofs.Fitting.{fits-abs, floor-plain, power-plain}
 use Rattle.accumulator.specs.Shift.{shiftOf}
 use Rattle.accumulator.proofs.Sizes.{accumulator-within, allowed-size}
 use Rattle.accumulator.proofs.shift.shift.Statement.{statement}
@@ -27,12 +27,7 @@ right-amount : (n : ℤ) → ltZ n (pos 0) ≡ false → ofZ w64 n ≡ natAbs n
 right-amount (pos k) t = refl
 right-amount (negsuc k) t = absurd (omega whole)
 
--- 1 << k, and v times it
-power : {k : ℕ} → k ≤ 16 → toZ w64 (1 * 2 ^ k % 2 ^ 64) ≡ pos (2 ^ k)
-power {k} h =
-    let small : 2 ^ k ≤ 2 ^ 16 = pow-mono h in
-    simp (one-mul, mod-eq-of-lt {m = 2 ^ 64} (lt-of-le-of-lt small (lit< tt))) (toZ-pos w64 (lt-of-le-of-lt small (lit< tt)))
-
+-- v times 1 << k
 times-fits : (v : ℤ) {k : ℕ} → Within 39 v → k ≤ 16 → SFits w64 (v *ℤ pos (2 ^ k))
 times-fits v {k} h l =
     let wide : natAbs v ≤ 2 ^ 39 = omega (whole, size v, abs-is v) in
@@ -65,7 +60,7 @@ shl-result c =
 mul-result : tie.Need-mul-result
 mul-result c =
     let s = c .before in
-    simp (toZ-ofZ (s .fits .v), toZ-ofZ (s .fits .n), left-amount (s .args .n) (below-zero c), power (amount s))
+    simp (toZ-ofZ (s .fits .v), toZ-ofZ (s .fits .n), left-amount (s .args .n) (below-zero c), power-plain (le-trans (amount s) (lit≤ tt)))
     (times-fits (s .args .v) (value s) (amount s))
 
 shr-result : tie.Need-shr-result
@@ -76,7 +71,7 @@ unfolding shiftOf
 returns c =
     let s = c .before in
     rw (toZ-ofZ (mul-result c), below-zero c)
-    (simp (toZ-ofZ (s .fits .v), toZ-ofZ (s .fits .n), left-amount (s .args .n) (below-zero c), power (amount s)))
+    (simp (toZ-ofZ (s .fits .v), toZ-ofZ (s .fits .n), left-amount (s .args .n) (below-zero c), power-plain (le-trans (amount s) (lit≤ tt))))
 
 returns-2 : tie.Need-returns-2
 unfolding shiftOf
