@@ -85,15 +85,31 @@ pub fn write(operations: &[u8], out: &mut [u8]) -> Result<usize, u8> {
         return Err(1);
     }
     check_operations(operations)?;
-    let length = BLOCK * count.div_ceil(FULL);
-    let Some(part) = out.get_mut(..length) else {
+    let Some(part) = out.get_mut(..file_length(count)) else {
         return Err(8);
     };
+    fill_blocks(part, operations);
+    Ok(part.len())
+}
+
+/// The bytes of a file of so many operations.
+pub fn file_length(count: usize) -> usize {
+    BLOCK * count.div_ceil(FULL)
+}
+
+/// The blocks of operations, good or bad and however many: nothing is refused.
+pub fn blocks_of(operations: &[u8]) -> Vec<u8> {
+    let mut file = vec![0; file_length(operations.len() / LENGTH)];
+    fill_blocks(&mut file, operations);
+    file
+}
+
+/// Fill one block's part of the output at a time.
+fn fill_blocks(out: &mut [u8], operations: &[u8]) {
     let parts = operations.chunks(LENGTH * FULL);
-    for (number, (block, held)) in part.chunks_exact_mut(BLOCK).zip(parts).enumerate() {
+    for (number, (block, held)) in out.chunks_exact_mut(BLOCK).zip(parts).enumerate() {
         write_block(block, number as u16, held);
     }
-    Ok(length)
 }
 
 /// Fill one block's part of the output.

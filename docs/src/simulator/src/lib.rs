@@ -19,6 +19,7 @@ pub mod operand;
 pub mod operation;
 pub mod placement;
 pub mod prefetch;
+pub mod requests;
 pub mod settings;
 pub mod state;
 pub mod status;

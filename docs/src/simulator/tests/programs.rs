@@ -1,4 +1,4 @@
-//! The three programs as they are started.
+//! The programs as they are started.
 
 mod common;
 use common::*;
@@ -64,6 +64,37 @@ fn generate_refuses_bad_arguments() {
     ] {
         let output = started(generate, arguments, &[]);
         assert!(!output.status.success());
+        assert!(!output.stderr.is_empty());
+    }
+}
+
+#[test]
+fn files_writes_requests_and_answers() {
+    let files = env!("CARGO_BIN_EXE_files");
+    let stream = started(files, &["requests"], &[]).stdout;
+    assert!(stream == stored_requests("stdin"));
+    let answers = started(files, &["answers"], &stream).stdout;
+    assert!(answers == stored_requests("stdout"));
+    let random = started(files, &["random", "7", "20"], &[]).stdout;
+    assert_eq!(random[..2], [20, 0]);
+    let answers = started(files, &["answers"], &random).stdout;
+    assert_eq!(answers.iter().filter(|&&byte| byte == b'\n').count(), 20);
+}
+
+#[test]
+fn files_refuses_bad_arguments_and_what_is_no_stream() {
+    let files = env!("CARGO_BIN_EXE_files");
+    for arguments in [
+        &[][..],
+        &["other"],
+        &["random", "1"],
+        &["random", "x", "1"],
+        &["random", "1", "65536"],
+        &["answers"],
+    ] {
+        let output = started(files, arguments, &[1]);
+        assert!(!output.status.success(), "{arguments:?}");
+        assert!(output.stdout.is_empty());
         assert!(!output.stderr.is_empty());
     }
 }

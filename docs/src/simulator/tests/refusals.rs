@@ -35,14 +35,6 @@ fn op_is_good(op: Op) -> bool {
     answer == Ok(32)
 }
 
-fn set_sum(file: &mut [u8]) {
-    for block in file.chunks_exact_mut(512) {
-        (block[4], block[5]) = (0, 0);
-        let sum: u32 = block.iter().map(|&b| u32::from(b)).sum();
-        (block[4], block[5]) = ((sum % 256) as u8, (sum / 256 % 256) as u8);
-    }
-}
-
 #[test]
 fn refusal_1_whole_blocks_and_whole_operations() {
     let most = file_of(&vec![IDLE; 4_032]);

@@ -6,14 +6,14 @@ use super::random::Random;
 use super::start;
 use crate::cases::{Case, What};
 use crate::encode::encode_all;
-use crate::file::{write, BLOCK, FULL, MOST_OPERATIONS};
+use crate::file::{file_length, write, MOST_OPERATIONS};
 use crate::operation::Operation;
 use crate::settings::Settings;
 use crate::state::State;
 
 /// The program file of accepted operations.
 pub fn file_of(operations: &[Operation]) -> Vec<u8> {
-    let mut file = vec![0; BLOCK * operations.len().div_ceil(FULL)];
+    let mut file = vec![0; file_length(operations.len())];
     let written = write(&encode_all(operations), &mut file);
     debug_assert_eq!(written, Ok(file.len()));
     file
@@ -93,7 +93,7 @@ pub fn accepted_copy(random: &mut Random, what: What) -> Case {
     let count = operation_count(random);
     let operations = program(random, &layout, style, count);
     let (file, needed) = match what {
-        What::Write => (encode_all(&operations), BLOCK * count.div_ceil(FULL)),
+        What::Write => (encode_all(&operations), file_length(count)),
         _ => (file_of(&operations), 8 * count),
     };
     let lent = match random.below(4) {

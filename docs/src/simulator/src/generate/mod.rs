@@ -1,12 +1,18 @@
-//! Case streams with the lines that must be printed for them.
+//! Case streams with the lines that must be printed for them, and request
+//! streams.
 
+pub mod blocks;
 pub mod case;
 pub mod coverage;
 pub mod damage;
 pub mod edges;
+pub mod forms;
 pub mod layout;
+pub mod misses;
+pub mod places;
 pub mod program;
 pub mod random;
+pub mod requests;
 pub mod simple;
 pub mod special;
 pub mod start;

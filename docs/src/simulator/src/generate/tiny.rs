@@ -10,12 +10,13 @@ use super::simple;
 use crate::cases::{Case, What};
 use crate::decode::decode;
 use crate::encode::{encode, encode_all};
-use crate::file::{block_sum, BLOCK};
+use crate::file::blocks_of;
 use crate::operation::Operation;
 use crate::settings::Settings;
 use crate::state::State;
 
-const IDLE: Operation = Operation::Literal(0, 0);
+/// An operation without any effect but its step.
+pub const IDLE: Operation = Operation::Literal(0, 0);
 
 /// A write, load or run of these operations, good or bad. The run has no memory:
 /// where the operations are good, refusal 6 follows.
@@ -25,21 +26,11 @@ fn copy_case(random: &mut Random, bytes: Vec<u8>) -> Case {
     Case {
         what,
         budget: if writes { 512 } else { bytes.len() as u32 },
-        file: if writes { bytes } else { one_block(&bytes) },
+        file: if writes { bytes } else { blocks_of(&bytes) },
         memory: Vec::new(),
         settings: Settings::plain(1),
         state: State::reset(),
     }
-}
-
-/// One block that holds the operations as they are.
-fn one_block(bytes: &[u8]) -> Vec<u8> {
-    let mut block = vec![0; BLOCK];
-    block[2] = (bytes.len() / 8) as u8;
-    block[8..8 + bytes.len()].copy_from_slice(bytes);
-    let sum = block_sum(&block);
-    block[4..6].copy_from_slice(&sum.to_le_bytes());
-    block
 }
 
 /// Any operation that could stand at 0 before four others.

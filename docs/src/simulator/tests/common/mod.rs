@@ -102,6 +102,22 @@ pub fn file_of(ops: &[Op]) -> Vec<u8> {
     file
 }
 
+/// Make every block's sum right again, by hand.
+pub fn set_sum(file: &mut [u8]) {
+    for block in file.chunks_exact_mut(512) {
+        (block[4], block[5]) = (0, 0);
+        let sum: u32 = block.iter().map(|&b| u32::from(b)).sum();
+        (block[4], block[5]) = ((sum % 256) as u8, (sum / 256 % 256) as u8);
+    }
+}
+
+/// The stored request stream or its answers, next to the proved program that
+/// answers them too.
+pub fn stored_requests(name: &str) -> Vec<u8> {
+    let folder = concat!(env!("CARGO_MANIFEST_DIR"), "/../../../crates/files/");
+    std::fs::read(format!("{folder}{name}")).expect("the stored file is there")
+}
+
 /// 64 words of memory, X 1000..103F, Y 1040..107F hex.
 pub struct Bench {
     pub settings: Settings,

@@ -1,0 +1,14 @@
+pub mod DecodeExamples
+pub mod FileExamples
+pub mod Same
+pub mod Operations
+pub mod Slices
+pub mod Answers
+pub mod Blocks
+pub mod Files
+pub mod Places
+pub mod Roles
+pub mod Rebuilt
+pub mod RoundTrip
+pub mod Accepted
+pub mod Trips

@@ -1,0 +1,12 @@
+pub mod Bytes
+pub mod Encode
+pub mod Listed
+pub mod Decode
+pub mod Placement
+pub mod Answer
+pub mod Layout
+pub mod Accept
+pub mod Block
+pub mod File
+pub mod Write
+pub mod Trip
