@@ -3,7 +3,7 @@ use crate::table::REVERSALS;
 use crate::word::ByteAddress;
 ghost use mathlib.Core.Path.{_≡_};
 ghost use Prim.Native.Nat.{_*_, _-_, _^_, _≤_, _<_};
-ghost use Rattle.address.specs.Reversal.{rev, reversalTable, widthOf, indexOf, nextIndex, nextOf};
+ghost use Rattle.address.specs.Reversal.{rev, reversalTable, widthOf, isPower, indexOf, nextIndex, nextOf};
 
 // The table of the 1,024 reversals of ten bits. A caller makes it once and lends it: each function that names a constant array builds it
 // on its stack at every call.
@@ -30,6 +30,13 @@ fn width(n: u16) -> u16
         1024 => 10,
         _ => 0,
     }
+}
+
+// Whether N is a power of two 2 .. 1,024.
+pub fn is_power(n: u16) -> bool
+    ensures { λ r. ⌜ r ≡ isPower n ⌝ }
+{
+    width(n) != 0
 }
 
 // N, from its width.

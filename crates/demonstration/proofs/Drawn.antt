@@ -1,37 +1,14 @@
--- A small natural, as an i64, less a small number fits; the magnitude of a number below zero. Assumes nothing.
+-- A small natural, as an i64, less a small number fits. Assumes nothing.
 use mathlib.Core.Path.{_≡_}
-use mathlib.Core.Bool.{true, false}
 use Prim.Native.Nat.{ℕ, _<_, _^_}
 use native.Mathlib.Omega.{arith}
-use lib.Dec.{T}
-use lib.IntN.{ℤ, pos, natAbs, _+ℤ_, _-ℤ_}
-use lib.Signed.{mag, ltZ, nonNeg}
+use lib.IntN.{pos, _-ℤ_}
 use mir.Syntax.{w64}
-use mir.Val.{Fits, SFits, toZ}
+use mir.Val.{SFits, toZ}
 use mir.Facts.{toZ-pos}
-use Rattle.integers.proofs.Whole.{whole, size, sum, less, abs-is, not-negative}
+use Rattle.integers.proofs.Whole.{whole, size, less}
 
 pub drawn-less : (n k : ℕ) → n < 2 ^ 50 → k < 2 ^ 50 → SFits w64 (toZ w64 n -ℤ pos k)
 drawn-less n k h l =
     let plain : toZ w64 n ≡ pos n = toZ-pos w64 (omega arith) in
     rw plain (omega (whole, size (pos n -ℤ pos k), less (pos n) (pos k)))
-
--- 0 - (z + 1) of z below zero
-module _ (z : ℤ) (f : SFits w64 z) (t : ltZ z (pos 0) ≡ true) where
-  pub more-fits : SFits w64 (z +ℤ pos 1)
-  more-fits = omega (whole, size z, size (z +ℤ pos 1), sum z (pos 1), f .sfits)
-
-  pub below-is : pos 0 -ℤ (z +ℤ pos 1) ≡ pos (mag z)
-  below-is = omega (whole, size z, size (z +ℤ pos 1), sum z (pos 1), less (pos 0) (z +ℤ pos 1), size (pos 0 -ℤ (z +ℤ pos 1)))
-
-  pub below-fits : SFits w64 (pos 0 -ℤ (z +ℤ pos 1))
-  below-fits = rw below-is (record { sfits = f .sfits })
-
--- of z from zero on
-pub natural : (z : ℤ) → SFits w64 z → ltZ z (pos 0) ≡ false → T (nonNeg z) × Fits w64 (natAbs z)
-natural z f t =
-    let small : natAbs z < 2 ^ 64 = omega (whole, size z, abs-is z, f .sfits) in
-    (not-negative z (omega (whole, size z)), record { fits = small })
-
-pub same-size : (z : ℤ) → ltZ z (pos 0) ≡ false → natAbs z ≡ mag z
-same-size z t = omega (whole, size z, abs-is z)

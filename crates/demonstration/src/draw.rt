@@ -2,9 +2,8 @@
 use address::step::Buffer;
 use address::step::sum;
 use address::word::ByteAddress;
-ghost use mathlib.Core.Path.{_≡_};
+use stream::number::magnitude;
 ghost use Prim.Native.Nat.{_<_, _^_};
-ghost use lib.Signed.{mag};
 
 // The number drawn after x: 48,271 x modulo 2^31 - 1.
 pub fn after(x: u64) -> u64 {
@@ -14,18 +13,6 @@ pub fn after(x: u64) -> u64 {
 // The check h with the number v: (31 h + v) modulo 2^32.
 pub fn checked(h: u64, v: u64) -> u64 {
     (h % 4294967296 * 31 + v % 4294967296) % 4294967296
-}
-
-// n both of n and of -(n + 1).
-pub fn magnitude(v: i64) -> u64
-    ensures { λ r. ⌜ r ≡ mag v ⌝ }
-{
-    if v < 0 {
-        let below = 0 - (v + 1);
-        below as u64
-    } else {
-        v as u64
-    }
 }
 
 // The check with a signed number: whether it is below zero, then its magnitude.

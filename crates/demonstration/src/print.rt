@@ -1,6 +1,6 @@
 // Text and numbers on standard output.
-use crate::draw;
 use libc::STDOUT_FILENO;
+use stream::number::print_signed;
 
 pub fn text(b: &[u8]) {
     io::write_all(STDOUT_FILENO, b);
@@ -15,12 +15,7 @@ pub fn hex(w: u16) {
 }
 
 pub fn signed(v: i64) {
-    if v < 0 {
-        text(b"-");
-        number(draw::magnitude(v) + 1);
-    } else {
-        number(draw::magnitude(v));
-    }
+    print_signed(v);
 }
 
 // An accumulator's value, and its flags where they are set.

@@ -53,6 +53,12 @@ isRepeat Plain = false
 isRepeat Repeats = true
 isRepeat (Loops last) = false
 
+-- b4-5 is the last operation's number; 0 of an operation that is no DO
+abbrev pub lastOf : Role → ℕ
+lastOf Plain = 0
+lastOf Repeats = 0
+lastOf (Loops last) = last
+
 -- a DO has its last below e
 abbrev pub endsBelow : ℕ → Role → Bool
 endsBelow e Plain = true

@@ -9,12 +9,16 @@ use crate::bytes::wide;
 use crate::layout::Layout;
 use crate::layout::operation_in;
 use crate::operation::Operation;
+use crate::placement::is_repeat;
+use crate::placement::last_of;
+use crate::placement::role_in;
 ghost use mathlib.Core.Path.{_≡_};
 ghost use Prim.Native.Nat.{_<_, _≤_};
 ghost use lib.ListN.{length, getD};
 ghost use Rattle.program.specs.Answer.{verdictNumber};
 ghost use Rattle.program.specs.Bytes.{over};
 ghost use Rattle.program.specs.File.{isFileSize, blocksRefusal, operationCount, fileRefusal, programOf, bodiesOf, Loads};
+ghost use Rattle.program.specs.Placement.{roleAt, isRepeat, lastOf};
 ghost use Rattle.program.specs.declared.operation.Operation.{Operation};
 
 fn is_file_size(n: usize) -> bool
@@ -73,6 +77,24 @@ pub fn operation_at(file: &[u8], i: usize) -> Operation
     ensures { λ r. ⌜ ((other : Operation) → r ≡ getD (programOf (now (file .entry))) i other) ⌝ }
 {
     operation_in(file, Layout::Blocks, i)
+}
+
+// The last operation of the loop that operation i of an accepted file begins; 0 where it is no DO.
+pub fn last_at(file: &[u8], i: usize) -> usize
+    requires { ⌜ fileRefusal (now file) ≡ 0 ⌝ }
+    requires { ⌜ i < operationCount (now file) ⌝ }
+    ensures { λ r. ⌜ r ≡ lastOf (roleAt (programOf (now (file .entry))) i) ⌝ }
+{
+    last_of(role_in(file, Layout::Blocks, i))
+}
+
+// Whether operation i of an accepted file is a REPEAT.
+pub fn repeats_at(file: &[u8], i: usize) -> bool
+    requires { ⌜ fileRefusal (now file) ≡ 0 ⌝ }
+    requires { ⌜ i < operationCount (now file) ⌝ }
+    ensures { λ r. ⌜ r ≡ isRepeat (roleAt (programOf (now (file .entry))) i) ⌝ }
+{
+    is_repeat(role_in(file, Layout::Blocks, i))
 }
 
 // The operations' bytes of all blocks at the start of `to`; the rest of `to` stays.

@@ -49,7 +49,8 @@ fn is_prefetch(first: u8, prefetch: Prefetch) -> bool
     }
 }
 
-fn reads(prefetch: Prefetch) -> bool
+// Whether there is a read.
+pub fn reads(prefetch: Prefetch) -> bool
     ensures { λ b. ⌜ b ≡ reads prefetch ⌝ }
 {
     match prefetch {

@@ -1,6 +1,6 @@
 //! The case stream of CASES.md: parse, carry out, print.
 
-use std::fmt::Write as _;
+use std::fmt::{Display, Write as _};
 use std::io::{self, Read, Write};
 
 use crate::engine::{run, Outcome};
@@ -167,18 +167,22 @@ pub fn line(case: &Case) -> String {
 }
 
 fn run_line(outcome: &Outcome, memory: &[u16]) -> String {
+    state_line(&outcome.ending, outcome.steps, &outcome.state, memory)
+}
+
+/// The line of a run or a step: its first field, the steps, the state and the
+/// memory's check.
+pub fn state_line(first: &impl Display, steps: u32, state: &State, memory: &[u16]) -> String {
     let State {
         w,
         accumulators: [a, b],
         mode,
         flow,
         ..
-    } = &outcome.state;
+    } = state;
     let mut line = format!(
-        "{} {} {a} {b} {:04X} {} {} {:04X} {}",
-        outcome.ending,
-        outcome.steps,
-        status_word(&outcome.state),
+        "{first} {steps} {a} {b} {:04X} {} {} {:04X} {}",
+        status_word(state),
         flow.pc,
         flow.repeat,
         mode.0,

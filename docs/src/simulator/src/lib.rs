@@ -24,6 +24,7 @@ pub mod settings;
 pub mod state;
 pub mod status;
 pub mod step;
+pub mod steps;
 pub mod tally;
 pub mod words;
 pub mod write_back;

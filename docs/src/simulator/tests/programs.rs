@@ -98,3 +98,35 @@ fn files_refuses_bad_arguments_and_what_is_no_stream() {
         assert!(!output.stderr.is_empty());
     }
 }
+
+#[test]
+fn steps_writes_cases_and_lines() {
+    let steps = env!("CARGO_BIN_EXE_steps");
+    let stream = started(steps, &["cases"], &[]).stdout;
+    assert!(stream == stored_step_files("stdin"));
+    let lines = started(steps, &["lines"], &stream).stdout;
+    assert!(lines == stored_step_files("stdout"));
+    let random = started(steps, &["random", "7", "300"], &[]).stdout;
+    assert_eq!(random[..2], [44, 1]);
+    assert_eq!(random, started(steps, &["random", "7", "300"], &[]).stdout);
+    let lines = started(steps, &["lines"], &random).stdout;
+    assert_eq!(lines.iter().filter(|&&byte| byte == b'\n').count(), 300);
+}
+
+#[test]
+fn steps_refuses_bad_arguments_and_what_is_no_stream() {
+    let steps = env!("CARGO_BIN_EXE_steps");
+    for arguments in [
+        &[][..],
+        &["other"],
+        &["random", "1"],
+        &["random", "x", "1"],
+        &["random", "1", "65536"],
+        &["lines"],
+    ] {
+        let output = started(steps, arguments, &[1]);
+        assert!(!output.status.success(), "{arguments:?}");
+        assert!(output.stdout.is_empty());
+        assert!(!output.stderr.is_empty());
+    }
+}

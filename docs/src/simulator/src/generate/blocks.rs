@@ -18,7 +18,7 @@ fn file(count: usize) -> Vec<u8> {
 }
 
 /// The file with bytes set, its sums as they were.
-fn with(mut file: Vec<u8>, bytes: &[(usize, u8)]) -> Vec<u8> {
+pub fn with(mut file: Vec<u8>, bytes: &[(usize, u8)]) -> Vec<u8> {
     for &(at, value) in bytes {
         file[at] = value;
     }
@@ -26,7 +26,7 @@ fn with(mut file: Vec<u8>, bytes: &[(usize, u8)]) -> Vec<u8> {
 }
 
 /// The file with bytes set and its sums right.
-fn with_sums(file: Vec<u8>, bytes: &[(usize, u8)]) -> Vec<u8> {
+pub fn with_sums(file: Vec<u8>, bytes: &[(usize, u8)]) -> Vec<u8> {
     let mut file = with(file, bytes);
     repair(&mut file);
     file

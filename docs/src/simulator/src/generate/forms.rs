@@ -39,7 +39,7 @@ fn with_word(kind: u8, b1: u8, word: u16) -> Bytes {
 }
 
 /// The 15 bytes of a read: two pointers with seven steps each, and the sum.
-fn reads(pointers: [u8; 2], indexed: u8) -> Vec<u8> {
+pub fn reads(pointers: [u8; 2], indexed: u8) -> Vec<u8> {
     let steps = |pointer| (0..7).map(move |c| pointer | c << 4);
     pointers
         .into_iter()
@@ -137,8 +137,12 @@ fn loops(kind: u8) -> Vec<Bytes> {
     (0..).zip(heads(kind)).flat_map(around).collect()
 }
 
-/// All 128 good mode words: bits 0, 1, 4 to 7 and 12 in any way.
+/// All 128 good mode words.
 fn modes() -> Vec<Bytes> {
-    let word = |i: u16| (i & 3) | (i >> 2 & 15) << 4 | (i >> 6) << 12;
-    (0..128).map(|i| with_word(24, 0, word(i))).collect()
+    (0..128).map(|i| with_word(24, 0, mode_word(i))).collect()
+}
+
+/// A good mode word by its number, 0..127: bits 0, 1, 4 to 7 and 12 in any way.
+pub fn mode_word(number: u16) -> u16 {
+    (number & 3) | (number >> 2 & 15) << 4 | (number >> 6) << 12
 }

@@ -1,5 +1,5 @@
-//! Case streams with the lines that must be printed for them, and request
-//! streams.
+//! Case streams with the lines that must be printed for them, request streams,
+//! and streams of single steps.
 
 pub mod blocks;
 pub mod case;
@@ -16,6 +16,7 @@ pub mod requests;
 pub mod simple;
 pub mod special;
 pub mod start;
+pub mod steps;
 pub mod tiny;
 
 use std::io::{self, Write};

@@ -77,6 +77,11 @@ fn flow(random: &mut Random, operations: &[Operation]) -> Flow {
     if loops_around(pc, operations).len() > 4 {
         pc = 0;
     }
+    flow_at(random, operations, pc)
+}
+
+/// At this place: the loops around it and repeat left as row 7 asks.
+pub fn flow_at(random: &mut Random, operations: &[Operation], pc: u16) -> Flow {
     let mut flow = Flow::reset();
     flow.pc = pc;
     for (slot, do_number) in loops_around(pc, operations).into_iter().enumerate() {

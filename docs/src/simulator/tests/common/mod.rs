@@ -1,6 +1,7 @@
 //! Operations as bytes straight from the paper, and a bench to run them on.
 #![allow(dead_code)]
 
+use simulator::cases::{Case, What};
 use simulator::{ledger, Outcome, Settings, State};
 
 pub type Op = [u8; 8];
@@ -111,11 +112,23 @@ pub fn set_sum(file: &mut [u8]) {
     }
 }
 
-/// The stored request stream or its answers, next to the proved program that
-/// answers them too.
+/// Where the proved programs stand: next to the folder of these documents.
+const CRATES: &str = concat!(env!("CARGO_MANIFEST_DIR"), "/../../../crates/");
+
+/// A file stored with a proved program that this workspace answers for too.
+fn stored(program: &str, name: &str) -> Vec<u8> {
+    let path = format!("{CRATES}{program}/{name}");
+    std::fs::read(&path).unwrap_or_else(|error| panic!("{path}: {error}"))
+}
+
+/// The stored request stream or its answers.
 pub fn stored_requests(name: &str) -> Vec<u8> {
-    let folder = concat!(env!("CARGO_MANIFEST_DIR"), "/../../../crates/files/");
-    std::fs::read(format!("{folder}{name}")).expect("the stored file is there")
+    stored("files", name)
+}
+
+/// The stored stream of single steps or its lines.
+pub fn stored_step_files(name: &str) -> Vec<u8> {
+    stored("steps", name)
 }
 
 /// 64 words of memory, X 1000..103F, Y 1040..107F hex.
@@ -217,6 +230,18 @@ impl Bench {
             &self.memory,
             self.budget,
         )
+    }
+
+    /// The line of a single step.
+    pub fn step_line(&self, ops: &[Op]) -> String {
+        simulator::steps::line(&Case {
+            what: What::Run,
+            file: file_of(ops),
+            memory: self.memory.clone(),
+            budget: 1,
+            settings: self.settings,
+            state: self.state,
+        })
     }
 
     /// Run, and ask that it was refused with this number and changed nothing.

@@ -1,0 +1,125 @@
+-- `control::control_of` meets its contract, kind by kind. Assumes nothing.
+use Prim.Native.Nat.{_-_}
+use Rattle.machine.specs.Control.{controlOf}
+use borrow.Author.Needs.{needs}
+use Rattle.machine.proofs.control.control_of.Statement.{statement}
+use Rattle.machine.proofs.control.control_of.Tie as tie
+
+returns : tie.Need-returns
+unfolding controlOf
+returns c = rw (c .enum-told .given .1)
+
+returns-2 : tie.Need-returns-2
+unfolding controlOf
+returns-2 c = rw (c .enum-told2 .given .1)
+
+returns-3 : tie.Need-returns-3
+unfolding controlOf
+returns-3 c = rw (c .enum-told3 .given .1)
+
+returns-4 : tie.Need-returns-4
+unfolding controlOf
+returns-4 c = rw (c .enum-told4 .given .1)
+
+returns-5 : tie.Need-returns-5
+unfolding controlOf
+returns-5 c = rw (c .enum-told5 .given .1)
+
+returns-6 : tie.Need-returns-6
+unfolding controlOf
+returns-6 c = rw (c .enum-told6 .given .1)
+
+returns-7 : tie.Need-returns-7
+unfolding controlOf
+returns-7 c = rw (c .enum-told7 .given .1)
+
+returns-8 : tie.Need-returns-8
+unfolding controlOf
+returns-8 c = rw (c .enum-told8 .given .1)
+
+returns-9 : tie.Need-returns-9
+unfolding controlOf
+returns-9 c = rw (c .enum-told9 .given .1)
+
+returns-10 : tie.Need-returns-10
+unfolding controlOf
+returns-10 c = rw (c .enum-told10 .given .1)
+
+returns-11 : tie.Need-returns-11
+unfolding controlOf
+returns-11 c = rw (c .enum-told11 .given .1)
+
+returns-12 : tie.Need-returns-12
+unfolding controlOf
+returns-12 c = rw (c .enum-told12 .given .1)
+
+returns-13 : tie.Need-returns-13
+unfolding controlOf
+returns-13 c = rw (c .before .operation .given .1)
+
+returns-14 : tie.Need-returns-14
+unfolding controlOf
+returns-14 c = rw (c .before .operation2 .given .1)
+
+returns-15 : tie.Need-returns-15
+unfolding controlOf
+returns-15 c = rw (c .before .operation3 .given .1)
+
+returns-16 : tie.Need-returns-16
+unfolding controlOf
+returns-16 c = rw (c .before .operation4 .given .1)
+
+returns-17 : tie.Need-returns-17
+unfolding controlOf
+returns-17 c = rw (c .enum-told13 .given .1)
+
+returns-18 : tie.Need-returns-18
+unfolding controlOf
+returns-18 c = rw (c .before .operation5 .given .1)
+
+returns-19 : tie.Need-returns-19
+unfolding controlOf
+returns-19 c = rw (c .enum-told14 .given .1)
+
+pub control-of-spec : {M : Type 1} → statement M
+control-of-spec =
+    tie.close
+    (tie.spec
+    (λ c. search needs)
+    (λ c. search needs)
+    (λ c. search needs)
+    (λ c. search needs)
+    (λ c. search needs)
+    (λ c. search needs)
+    (λ c. search needs)
+    (λ c. search needs)
+    (λ c. search needs)
+    (λ c. search needs)
+    (λ c. search needs)
+    (λ c. search needs)
+    (λ c. search needs)
+    (λ c. search needs)
+    (λ c. search needs)
+    (λ c. search needs)
+    (λ c. search needs)
+    (λ c. search needs)
+    (λ c. search needs)
+    returns
+    returns-2
+    returns-3
+    returns-4
+    returns-5
+    returns-6
+    returns-7
+    returns-8
+    returns-9
+    returns-10
+    returns-11
+    returns-12
+    returns-13
+    returns-14
+    returns-15
+    returns-16
+    returns-17
+    returns-18
+    returns-19)

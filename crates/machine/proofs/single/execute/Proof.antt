@@ -1,0 +1,44 @@
+-- `single::execute` meets its contract: the state is taken apart, stepped and put together. Assumes nothing.
+use mathlib.Core.Path.{_≡_, refl, ap, _∙_}
+use Prim.Native.Nat.{_-_, _<_}
+use lib.ListN.{length}
+use denote.Ref.{now}
+use Rattle.integers.proofs.Whole.{same}
+use Rattle.machine.specs.Lent.{stateOf}
+use Rattle.program.specs.File.{operationCount, programOf}
+use Rattle.program.proofs.Accepted.{accepted-blocks, program-length}
+use Rattle.machine.proofs.Standing.{Standing, accepted-standing, standing-ready}
+use Rattle.machine.specs.declared.state.State.{State}
+use Rattle.program.proofs.Places.{count-range}
+use borrow.Author.Needs.{needs}
+use Rattle.machine.proofs.single.execute.Statement.{statement}
+use Rattle.machine.proofs.single.execute.Tie as tie
+
+step-requires : tie.Need-step-requires
+step-requires c κs =
+    let entry = c .before .before .before .before .before .before .before .before .before .before .before .before .before .before in
+    let at-before = c .before .before .before .before .before .before .before .before .before .before .before .before .before in
+    let at-reversals = c .before .before .before .before .before .before in
+    let at-scalars-of = c .before .before .before .before .before in
+    let file = entry .args .file .now in
+    let count : length (programOf file) ≡ operationCount file = program-length file (entry .pre .0) in
+    let some : 0 < length (programOf file) = rw (count) (count-range file (accepted-blocks file (entry .pre .0)) .0) in
+    let standing : Standing (operationCount file) (entry .args .state .core) =
+    rw (count) at (accepted-standing (programOf file) (entry .args .state) some (entry .pre .1 .0)) in
+    let is : stateOf (entry .args .state .core .w) (entry .args .state .core .loops .starts) (entry .args .state .core .loops .passes) (at-scalars-of .scalars-of .result) ≡ entry .args .state = at-scalars-of .scalars-of .ensures in
+    let same : at-scalars-of .scalars-of .result .pc ≡ entry .args .state .core .pc = ap (λ (x : State). x .core .pc) is in
+    let deep : at-scalars-of .scalars-of .result .depth ≡ entry .args .state .core .loops .depth = ap (λ (x : State). x .core .loops .depth) is in
+    let a : at-scalars-of .scalars-of .result .a ≡ entry .args .state .core .a = ap (λ (x : State). x .core .a) is in
+    let b : at-scalars-of .scalars-of .result .b ≡ entry .args .state .core .b = ap (λ (x : State). x .core .b) is in
+    (entry .pre .0, (rw (same, deep) (standing-ready (operationCount file) (entry .args .state .core) standing (entry .pre .1 .1)), (rw (a) (standing .a), (rw (b) (standing .b), at-reversals .reversals .ensures))))
+
+returns : tie.Need-returns
+returns c =
+    let entry = c .before .before .before .before .before .before .before .before .before .before .before .before .before .before .before .before .before .before .before in
+    let at-before = c .before .before .before .before .before .before .before .before .before .before .before .before .before .before .before .before .before .before in
+    let at-scalars-of = c .before .before .before .before .before .before .before .before .before .before in
+    let at-step = c .before .before .before .before in
+    (rw (c .state-of .ensures) (at-step .step .ensures ∙ rw (at-scalars-of .scalars-of .ensures)), refl)
+
+pub execute-spec : {M : Type 1} → statement M
+execute-spec = tie.close (tie.spec (λ c κs. search needs) (λ c κs. search needs) step-requires (λ c κs. search needs) (λ c. search needs) returns)

@@ -1,0 +1,88 @@
+// Cases from standard input, in each of which one step is made, answered by a line on standard output.
+use libc::STDIN_FILENO;
+use machine::single::SingleStep;
+use machine::single::single_step;
+use stream::header;
+use stream::line;
+use stream::memory::fill;
+use stream::number::print_number;
+use stream::number::print_text;
+ghost use Prim.Native.Nat.{_*_, _≤_};
+ghost use lib.ListN.{length};
+
+// One case: its header, the program file, the words of memory. The simulator makes none that is longer than the buffers; it would have no answer,
+// and what follows it would be out of step.
+fn case(file: &mut [u8], bytes: &mut [u8], memory: &mut [u16]) {
+    let mut head = [0u8; 112];
+    io::read_full(STDIN_FILENO, &mut head);
+    let size = header::file_size(head);
+    let words = header::memory_words(head);
+    if file.len() < size {
+        return;
+    }
+    if memory.len() < words {
+        return;
+    }
+    if bytes.len() < 2 * words {
+        return;
+    }
+    io::read_full(STDIN_FILENO, &mut file[0..size]);
+    io::read_full(STDIN_FILENO, &mut bytes[0..2 * words]);
+    answer(
+        head,
+        &file[0..size],
+        &bytes[0..2 * words],
+        &mut memory[0..words],
+    );
+}
+
+// How the step ended: refused, done, trapped or made.
+fn print_ending(made: SingleStep) {
+    if made.refusal != 0 {
+        print_text(b"refused");
+        print_number(made.refusal as u64);
+    } else if made.trap != 0 {
+        print_text(b"trap");
+        print_number(made.trap as u64);
+    } else if made.counted {
+        print_text(b"step");
+    } else {
+        print_text(b"done");
+    }
+}
+
+// The step of a case, and its line.
+fn answer(head: [u8; 112], file: &[u8], bytes: &[u8], memory: &mut [u16])
+    requires { ⌜ 2 * length (now memory) ≤ length (now bytes) ⌝ }
+{
+    fill(memory, bytes);
+    let settings = header::settings(head);
+    let state = header::state(head);
+    let made = single_step(file, settings, state, memory);
+    print_ending(made);
+    let after = made.state;
+    line::print_rest(made.counted as u64, after, memory);
+}
+
+// So many cases.
+fn cases(count: usize, file: &mut [u8], bytes: &mut [u8], memory: &mut [u16]) {
+    let mut left = count;
+    while 0 < left {
+        case(file, bytes, memory);
+        left -= 1;
+    }
+}
+
+fn main() {
+    let mut head = [0u8; 2];
+    io::read_full(STDIN_FILENO, &mut head);
+    let mut file = [0u8; 33792];
+    let mut bytes = [0u8; 65536];
+    let mut memory = [0u16; 32768];
+    cases(
+        header::word(head[0], head[1]) as usize,
+        &mut file,
+        &mut bytes,
+        &mut memory,
+    );
+}

@@ -1,0 +1,3 @@
+pub mod Magnitude
+pub mod Halves
+pub mod Words

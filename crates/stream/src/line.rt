@@ -1,0 +1,93 @@
+// The line of a case: its fields, parted by one space.
+use crate::number::print_number;
+use crate::number::print_signed;
+use crate::number::print_text;
+use crate::number::print_word;
+use machine::state::Core;
+use machine::state::Loops;
+use machine::state::State;
+
+// A space and a number.
+fn print_field(n: u64) {
+    print_text(b" ");
+    print_number(n);
+}
+
+// A space and a signed number.
+fn print_signed_field(v: i64) {
+    print_text(b" ");
+    print_signed(v);
+}
+
+// A space and a word in hexadecimal.
+fn print_word_field(x: u16) {
+    print_text(b" ");
+    print_word(x);
+}
+
+// The check number with one number more: 31 h + x modulo 2^32.
+fn next_check(h: u32, x: u16) -> u32 {
+    ((31 * h as u64 + x as u64) % 4294967296) as u32
+}
+
+// The check number of all words.
+fn check(memory: &[u16]) -> u32 {
+    let mut h = 0;
+    let mut i = 0;
+    while i < memory.len() {
+        h = next_check(h, memory[i]);
+        i += 1;
+    }
+    h
+}
+
+// A slot: DO's number and passes left.
+fn print_slot(start: usize, left: u32) {
+    print_field(start as u64);
+    print_text(b":");
+    print_number(left as u64);
+}
+
+// The four slots.
+fn print_slots(loops: Loops) {
+    let starts = loops.starts;
+    let passes = loops.passes;
+    let mut i = 0;
+    while i < 4 {
+        print_slot(starts[i], passes[i]);
+        i += 1;
+    }
+}
+
+// The registers, each in hexadecimal.
+fn print_registers(w: [u16; 14]) {
+    let mut i = 0;
+    while i < 14 {
+        print_word_field(w[i]);
+        i += 1;
+    }
+}
+
+// A, B, SR, pc, repeat left, mode word, loops, registers.
+fn print_core(core: Core, status: u16) {
+    let loops = core.loops;
+    let w = core.w;
+    print_signed_field(core.a);
+    print_signed_field(core.b);
+    print_word_field(status);
+    print_field(core.pc as u64);
+    print_field(core.repeat as u64);
+    print_word_field(core.mode);
+    print_field(loops.depth as u64);
+    print_slots(loops);
+    print_registers(w);
+}
+
+// The rest of a line after its ending: steps, the state, the check number of memory.
+pub fn print_rest(steps: u64, state: State, memory: &[u16]) {
+    let core = state.core;
+    print_field(steps);
+    print_core(core, state.status());
+    print_field(check(memory) as u64);
+    print_text(b"\n");
+}
