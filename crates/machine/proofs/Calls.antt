@@ -10,16 +10,16 @@ use Rattle.program.specs.Answer.{_then_, ifAccepted}
 use Rattle.program.specs.File.{fileRefusal, operationCount, programOf}
 use Rattle.program.proofs.Answers.{then-first, then-second}
 use Rattle.program.proofs.Accepted.{program-length}
-use Rattle.machine.specs.Settings.{settingsRefusal}
+use Rattle.state.specs.Settings.{settingsRefusal}
+use Rattle.state.specs.Accept.{stateRefusal}
+use Rattle.state.specs.declared.settings.Settings.{Settings}
+use Rattle.state.specs.declared.state.State.{State}
 use Rattle.machine.specs.Step.{Step, uncounted, stepped}
-use Rattle.machine.specs.Accept.{stateRefusal}
 use Rattle.machine.specs.Single.{callRefusal, doneOrStepped, Steps}
-use Rattle.machine.specs.declared.settings.Settings.{Settings}
-use Rattle.machine.specs.declared.state.State.{State}
 use Rattle.machine.specs.declared.single.SingleStep.{SingleStep}
 
 -- a refusal leaves what was there
-if-refused : (n : ℕ) (x y : Step) → (n ≡ 0 → ⊥) → y ≡ ifAccepted n x y
+pub if-refused : {A : Type 0} (n : ℕ) (x y : A) → (n ≡ 0 → ⊥) → y ≡ ifAccepted n x y
 if-refused zero x y h = absurd (h refl)
 if-refused (suc n) x y h = refl
 

@@ -15,23 +15,23 @@ use Rattle.accumulator.specs.Mode.{isGoodMode, modeOf}
 use Rattle.accumulator.specs.declared.mode.Mode.{Mode}
 use Rattle.accumulator.specs.declared.mode.Target.the-variants.{A, B}
 use Rattle.accumulator.proofs.Sizes.{within-accumulator, kept-within}
-use Rattle.program.specs.declared.operation.Operation.{Operation}
+use Rattle.operations.specs.declared.operation.Operation.{Operation}
 use Rattle.program.proofs.Answers.{cond-zero}
-use Rattle.machine.specs.State.{register, goTo, withMode}
+use Rattle.state.specs.State.{register, goTo, withMode}
+use Rattle.state.specs.Accept.{isAround, aroundIn, standIn, isSlot, areLoops, isRepeatLeft, isState, stateRefusal}
+use Rattle.state.specs.declared.settings.Settings.{Settings}
+use Rattle.state.specs.declared.state.Loops.{Loops}
+use Rattle.state.specs.declared.state.Core.{Core}
+use Rattle.state.specs.declared.state.State.{State}
+use Rattle.effects.specs.Effect.{Work}
+use Rattle.effects.specs.Operations.{workOf}
+use Rattle.effects.specs.declared.effect.Exact.{Exact}
+use Rattle.effects.specs.declared.effect.Exact.the-variants.{Keep, Result}
 use Rattle.machine.specs.Loops.{innerStart, innerPasses, pushed, withPasses, popped}
-use Rattle.machine.specs.Effect.{Work}
-use Rattle.machine.specs.Operations.{workOf}
 use Rattle.machine.specs.Write.{settleOf}
 use Rattle.machine.specs.Control.{innerLast, isNearLast, fallen, advanced, repeated, entered, endedEarly, controlOf, controlled, begins, stateControlled}
 use Rattle.machine.specs.Step.{Step, operationAt, stateAfter, completed, stepped}
-use Rattle.machine.specs.Accept.{isAround, aroundIn, standIn, isSlot, areLoops, isRepeatLeft, isState, stateRefusal}
 use Rattle.machine.specs.Lent.{Ready}
-use Rattle.machine.specs.declared.settings.Settings.{Settings}
-use Rattle.machine.specs.declared.state.Loops.{Loops}
-use Rattle.machine.specs.declared.state.Core.{Core}
-use Rattle.machine.specs.declared.state.State.{State}
-use Rattle.machine.specs.declared.effect.Exact.{Exact}
-use Rattle.machine.specs.declared.effect.Exact.the-variants.{Keep, Result}
 use Rattle.machine.specs.declared.control.Control.{Control}
 use Rattle.machine.specs.declared.control.Control.the-variants.{None as Onward, Repeat as Repeating, RepeatRegister as RepeatingRegister, Do as Looping}
 use Rattle.machine.specs.declared.control.Control.the-variants.{DoRegister as LoopingRegister, EndEarly as EndingEarly, SetMode as SettingMode}

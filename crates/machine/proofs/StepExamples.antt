@@ -19,39 +19,40 @@ use Rattle.address.specs.Word.{wordOf as indexAt}
 use Rattle.address.specs.Region.{isInside, accessTrap}
 use Rattle.address.specs.Step.{sumOf, steppedOf, correctedOf, circularOf}
 use Rattle.address.specs.Reversal.{rev, widthUpTo, widthOf, indexOf, nextIndex, nextOf}
-use Rattle.program.specs.declared.operation.Action.{Action}
-use Rattle.program.specs.declared.operation.Action.the-variants.{Clr, Mpy, Mac, Msc, Ed, Edac, Movsac}
-use Rattle.program.specs.declared.operation.Prefetch.{Prefetch}
-use Rattle.program.specs.declared.operation.Prefetch.the-variants.{None as NoRead, Pointer, Sum}
-use Rattle.program.specs.declared.operation.WriteBack.{WriteBack}
-use Rattle.program.specs.declared.operation.WriteBack.the-variants.{None as NoBack, Register as ToRegister, Memory as ToMemory}
-use Rattle.program.specs.declared.operation.PostModification.{PostModification}
-use Rattle.program.specs.declared.operation.PostModification.the-variants.{None as Stays, Increment, Decrement}
-use Rattle.program.specs.declared.operation.Operand.the-variants.{Register as Direct, Memory as Pointed}
-use Rattle.program.specs.declared.operation.Operation.{Operation}
-use Rattle.program.specs.declared.operation.Operation.the-variants.{MacClass as MacOperation, AddAccumulators, Subtract, Negate, Shift, Lac, Add, Sac}
-use Rattle.program.specs.declared.operation.Operation.the-variants.{SacR, Literal, Load, Store, Repeat, RepeatRegister, Do, DoRegister, EndEarly, SetMode}
-use Rattle.program.specs.declared.operation.Operation.the-variants.{ClearSaturation}
-use Rattle.machine.specs.Settings.{trapsOverflow, trapsLeft}
-use Rattle.machine.specs.State.{resetState}
-use Rattle.machine.specs.Pointer.{movedOf, stepOf, raisedOf, changeOf}
-use Rattle.machine.specs.Access.{operandAccess, prefetchAccess, backAccess, wordAt, changed}
-use Rattle.machine.specs.Mac.{exactBy, macExact, macAccesses, differenceOf, arrived, macRegisters, macWork}
-use Rattle.machine.specs.Operations.{shiftWork, byteShift, loadedValue, loadWork, storeWork, moveWork, loopWork, workOf}
+use Rattle.operations.specs.declared.operation.Action.{Action}
+use Rattle.operations.specs.declared.operation.Action.the-variants.{Clr, Mpy, Mac, Msc, Ed, Edac, Movsac}
+use Rattle.operations.specs.declared.operation.Prefetch.{Prefetch}
+use Rattle.operations.specs.declared.operation.Prefetch.the-variants.{None as NoRead, Pointer, Sum}
+use Rattle.operations.specs.declared.operation.WriteBack.{WriteBack}
+use Rattle.operations.specs.declared.operation.WriteBack.the-variants.{None as NoBack, Register as ToRegister, Memory as ToMemory}
+use Rattle.operations.specs.declared.operation.PostModification.{PostModification}
+use Rattle.operations.specs.declared.operation.PostModification.the-variants.{None as Stays, Increment, Decrement}
+use Rattle.operations.specs.declared.operation.Operand.the-variants.{Register as Direct, Memory as Pointed}
+use Rattle.operations.specs.declared.operation.Operation.{Operation}
+use Rattle.operations.specs.declared.operation.Operation.the-variants.{MacClass as MacOperation, AddAccumulators, Subtract, Negate, Shift, Lac, Add, Sac}
+use Rattle.operations.specs.declared.operation.Operation.the-variants.{SacR, Literal, Load, Store, Repeat, RepeatRegister, Do, DoRegister, EndEarly, SetMode}
+use Rattle.operations.specs.declared.operation.Operation.the-variants.{ClearSaturation}
+use Rattle.state.specs.Settings.{trapsOverflow, trapsLeft}
+use Rattle.state.specs.State.{resetState}
+use Rattle.state.specs.declared.settings.Circular.{Circular}
+use Rattle.state.specs.declared.settings.Settings.{Settings}
+use Rattle.state.specs.declared.state.Loops.{Loops}
+use Rattle.state.specs.declared.state.State.{State}
+use Rattle.state.proofs.AcceptExamples.{circle, none, slots}
+use Rattle.effects.specs.Pointer.{movedOf, stepOf, raisedOf, changeOf}
+use Rattle.effects.specs.Access.{operandAccess, prefetchAccess, backAccess, wordAt, changed}
+use Rattle.effects.specs.Mac.{exactBy, macExact, macAccesses, differenceOf, arrived, macRegisters, macWork}
+use Rattle.effects.specs.Operations.{shiftWork, byteShift, loadedValue, loadWork, storeWork, moveWork, loopWork, workOf}
+use Rattle.effects.specs.declared.access.Place.{Place}
+use Rattle.effects.specs.declared.access.Place.the-variants.{Nowhere}
+use Rattle.effects.specs.declared.effect.Exact.{Exact}
+use Rattle.effects.specs.declared.effect.Exact.the-variants.{Keep}
 use Rattle.machine.specs.Write.{trapAfter, settleOf, valueWord, putRegister, putMemory}
 use Rattle.machine.specs.Loops.{pushed, withPasses, popped}
 use Rattle.machine.specs.Control.{fallen, advanced, repeated, entered, endedEarly, controlOf, controlled, stateControlled}
 use Rattle.machine.specs.Step.{Step, completed, stepped}
 use Rattle.machine.specs.Single.{doneOrStepped, Steps}
-use Rattle.machine.proofs.AcceptExamples.{file, refused}
-use Rattle.machine.specs.declared.access.Place.{Place}
-use Rattle.machine.specs.declared.access.Place.the-variants.{Nowhere}
-use Rattle.machine.specs.declared.effect.Exact.{Exact}
-use Rattle.machine.specs.declared.effect.Exact.the-variants.{Keep}
-use Rattle.machine.specs.declared.settings.Circular.{Circular}
-use Rattle.machine.specs.declared.settings.Settings.{Settings}
-use Rattle.machine.specs.declared.state.Loops.{Loops}
-use Rattle.machine.specs.declared.state.State.{State}
+use Rattle.machine.proofs.CallExamples.{file, refused}
 
 -- ---- how the examples are written
 
@@ -67,14 +68,6 @@ unfolding stepped completed workOf macWork macAccesses macExact macRegisters exa
     isOdd roundsUp roundedOf needsLimiting storedWord storeOf
     remainderOf lowBits signedOf lowest highest outside nearer limitedTo
 after p settings s memory = stepped p settings s memory
-
--- a circular register with S and E
-abbrev circle : ℕ → ℕ → ℕ → Circular
-circle r s e = record { register = r; buffer = record { start = record { 0 = s }; last = record { 0 = e } } }
-
--- no circular register
-abbrev none : Circular
-none = circle 15 0 0
 
 -- settings: 12 words, 6 of them X's (addresses 1000 to 100A hex, then 100C to 1016); trap word, X's and Y's register, bit-reversed register and N
 abbrev settingsOf : ℕ → Circular → Circular → ℕ → ℕ → Settings
@@ -95,10 +88,6 @@ registers = 10 ∷ 11 ∷ 12 ∷ 13 ∷ 14 ∷ 15 ∷ 16 ∷ 17 ∷ 0x1002 ∷ 0
 abbrev made : List ℕ → ℤ → ℤ → ℕ → Loops → ℕ → ℕ → Bool → Bool → Bool → Bool → State
 made w a b pc loops due mode oa ob sa sb =
     record { core = record { w = w; a = a; b = b; pc = pc; loops = loops; repeat = due; mode = mode; oa = oa; ob = ob }; sa = sa; sb = sb }
-
--- the four slots and how many are in use
-abbrev slots : List ℕ → List ℕ → ℕ → Loops
-slots starts passes depth = record { starts = starts; passes = passes; depth = depth }
 
 -- A 3, B 5, no loop, no repeat, reset mode, no flag
 abbrev start : State

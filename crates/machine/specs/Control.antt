@@ -3,15 +3,15 @@ use Prim.Native.Nat.{ℕ, _+_, _-_, _%_, _^_, min}
 use mathlib.Core.Bool.{Bool, true, false, cond, _&&_, _||_}
 use mathlib.Core.List.{List}
 use lib.Dec.{eqb, ltb}
+use Rattle.operations.specs.declared.operation.Operation.{Operation}
+use Rattle.operations.specs.declared.operation.Operation.the-variants.{MacClass as MacOperation, AddAccumulators, Subtract, Negate, Shift, Lac, Add, Sac}
+use Rattle.operations.specs.declared.operation.Operation.the-variants.{SacR, Literal, Load, Store, Repeat, RepeatRegister, Do, DoRegister, EndEarly, SetMode}
+use Rattle.operations.specs.declared.operation.Operation.the-variants.{ClearSaturation}
 use Rattle.program.specs.Placement.{roleAt, lastOf}
-use Rattle.program.specs.declared.operation.Operation.{Operation}
-use Rattle.program.specs.declared.operation.Operation.the-variants.{MacClass as MacOperation, AddAccumulators, Subtract, Negate, Shift, Lac, Add, Sac}
-use Rattle.program.specs.declared.operation.Operation.the-variants.{SacR, Literal, Load, Store, Repeat, RepeatRegister, Do, DoRegister, EndEarly, SetMode}
-use Rattle.program.specs.declared.operation.Operation.the-variants.{ClearSaturation}
-use Rattle.machine.specs.State.{register, goTo, withMode}
+use Rattle.state.specs.State.{register, goTo, withMode}
+use Rattle.state.specs.declared.state.Core.{Core}
+use Rattle.state.specs.declared.state.State.{State}
 use Rattle.machine.specs.Loops.{innerStart, innerPasses, pushed, withPasses, popped}
-use Rattle.machine.specs.declared.state.Core.{Core}
-use Rattle.machine.specs.declared.state.State.{State}
 use Rattle.machine.specs.declared.control.Control.{Control}
 use Rattle.machine.specs.declared.control.Control.the-variants.{None as Onward, Repeat as Repeating, RepeatRegister as RepeatingRegister, Do as Looping}
 use Rattle.machine.specs.declared.control.Control.the-variants.{DoRegister as LoopingRegister, EndEarly as EndingEarly, SetMode as SettingMode}

@@ -1,7 +1,7 @@
 -- Active loops, outermost first: DO's number and passes left, the current one counted. A slot that is not in use is zero.
 use Prim.Native.Nat.{ℕ, _+_, _-_}
 use lib.ListN.{getD, set}
-use Rattle.machine.specs.declared.state.Loops.{Loops}
+use Rattle.state.specs.declared.state.Loops.{Loops}
 
 -- DO's number of the innermost loop
 abbrev pub innerStart : Loops → ℕ

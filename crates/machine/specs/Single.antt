@@ -5,14 +5,14 @@ use mathlib.Core.Path.{_≡_}
 use mathlib.Core.List.{List}
 use lib.Dec.{eqb}
 use lib.ListN.{length}
+use Rattle.operations.specs.declared.operation.Operation.{Operation}
 use Rattle.program.specs.Answer.{_then_, ifAccepted}
 use Rattle.program.specs.File.{fileRefusal, programOf}
-use Rattle.program.specs.declared.operation.Operation.{Operation}
-use Rattle.machine.specs.Settings.{settingsRefusal}
+use Rattle.state.specs.Settings.{settingsRefusal}
+use Rattle.state.specs.Accept.{stateRefusal}
+use Rattle.state.specs.declared.settings.Settings.{Settings}
+use Rattle.state.specs.declared.state.State.{State}
 use Rattle.machine.specs.Step.{Step, uncounted, stepped}
-use Rattle.machine.specs.Accept.{stateRefusal}
-use Rattle.machine.specs.declared.settings.Settings.{Settings}
-use Rattle.machine.specs.declared.state.State.{State}
 use Rattle.machine.specs.declared.single.SingleStep.{SingleStep}
 
 -- 1 to 5 of the file; 6; 7

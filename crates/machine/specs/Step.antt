@@ -6,15 +6,15 @@ use lib.Dec.{eqb}
 use lib.ListN.{getD}
 use Rattle.accumulator.specs.Mode.{modeOf}
 use Rattle.accumulator.specs.declared.mode.Mode.{Mode}
-use Rattle.program.specs.declared.operation.Operation.{Operation}
-use Rattle.program.specs.declared.operation.Operation.the-variants.{EndEarly}
-use Rattle.machine.specs.State.{withRegisters}
-use Rattle.machine.specs.Effect.{Work}
-use Rattle.machine.specs.Operations.{workOf}
+use Rattle.operations.specs.declared.operation.Operation.{Operation}
+use Rattle.operations.specs.declared.operation.Operation.the-variants.{EndEarly}
+use Rattle.state.specs.State.{withRegisters}
+use Rattle.state.specs.declared.settings.Settings.{Settings}
+use Rattle.state.specs.declared.state.State.{State}
+use Rattle.effects.specs.Effect.{Work}
+use Rattle.effects.specs.Operations.{workOf}
 use Rattle.machine.specs.Write.{settleOf, valueWord, putRegister, putMemory}
 use Rattle.machine.specs.Control.{controlOf, stateControlled}
-use Rattle.machine.specs.declared.settings.Settings.{Settings}
-use Rattle.machine.specs.declared.state.State.{State}
 
 -- operation i of a program
 abbrev pub operationAt : List Operation → ℕ → Operation

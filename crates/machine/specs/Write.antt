@@ -10,28 +10,17 @@ use Rattle.accumulator.specs.Store.{storeOf}
 use Rattle.accumulator.specs.declared.mode.Mode.{Mode}
 use Rattle.accumulator.specs.declared.mode.Target.{Target}
 use Rattle.accumulator.specs.declared.mode.Target.the-variants.{A, B}
-use Rattle.accumulator.specs.declared.limit.Accumulator.{Accumulator}
-use Rattle.machine.specs.Settings.{trapsOverflow, trapsLeft}
-use Rattle.machine.specs.State.{withAccumulator}
-use Rattle.machine.specs.declared.state.State.{State}
-use Rattle.machine.specs.declared.access.Place.{Place}
-use Rattle.machine.specs.declared.access.Place.the-variants.{Nowhere, Register, Memory}
-use Rattle.machine.specs.declared.effect.Exact.{Exact}
-use Rattle.machine.specs.declared.effect.Exact.the-variants.{Keep, Result}
-use Rattle.machine.specs.declared.effect.Value.{Value}
-use Rattle.machine.specs.declared.effect.Value.the-variants.{Word, Scaled}
+use Rattle.state.specs.Settings.{trapsOverflow, trapsLeft}
+use Rattle.state.specs.State.{accumulatorAt, withWritten}
+use Rattle.state.specs.declared.state.State.{State}
+use Rattle.effects.specs.declared.access.Place.{Place}
+use Rattle.effects.specs.declared.access.Place.the-variants.{Nowhere, Register, Memory}
+use Rattle.effects.specs.declared.effect.Exact.{Exact}
+use Rattle.effects.specs.declared.effect.Exact.the-variants.{Keep, Result}
+use Rattle.effects.specs.declared.effect.Value.{Value}
+use Rattle.effects.specs.declared.effect.Value.the-variants.{Word, Scaled}
 
 -- ---- accumulators
-
--- an accumulator with its flags
-abbrev pub accumulatorAt : State → Target → Accumulator
-accumulatorAt s A = record { value = s .core .a; overflow = s .core .oa; saturation = s .sa }
-accumulatorAt s B = record { value = s .core .b; overflow = s .core .ob; saturation = s .sb }
-
--- and written
-abbrev pub withWritten : State → Target → Accumulator → State
-withWritten s A x = record { core = withAccumulator (s .core) A (x .value) (x .overflow); sa = x .saturation; sb = s .sb }
-withWritten s B x = record { core = withAccumulator (s .core) B (x .value) (x .overflow); sa = s .sa; sb = x .saturation }
 
 -- 6 OA with OVATE; 7 OB with OVBTE
 abbrev pub overflowTrap : Target → ℕ

@@ -4,18 +4,19 @@ use crate::loops::inner_start;
 use crate::loops::pop;
 use crate::loops::push;
 use crate::loops::set_passes;
-use crate::registers::register;
-use crate::scalars::Scalars;
+use effects::registers::register;
+use effects::scalars::Scalars;
+use operations::operation::Operation;
 use program::file::last_at;
-use program::operation::Operation;
 ghost use mathlib.Core.Bool.{true, cond};
 ghost use mathlib.Core.List.{List};
 ghost use mathlib.Core.Path.{_≡_};
 ghost use Prim.Native.Nat.{ℕ, _-_, _<_, _≤_, min};
 ghost use lib.ListN.{getD};
 ghost use Rattle.program.specs.File.{fileRefusal, operationCount, programOf};
+ghost use Rattle.effects.specs.Lent.{coreOf, stateOf};
 ghost use Rattle.machine.specs.Control.{fallen, advanced, repeated, entered, endedEarly, controlOf, begins, stateControlled};
-ghost use Rattle.machine.specs.Lent.{coreOf, stateOf, Ready};
+ghost use Rattle.machine.specs.Lent.{Ready};
 
 // What an operation does beside its effect: nothing, or what one of kinds 19 to 25 does to repeat left, loops, the mode word or the flags.
 pub enum Control {

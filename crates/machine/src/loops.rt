@@ -3,8 +3,8 @@ ghost use mathlib.Core.List.{List};
 ghost use mathlib.Core.Path.{_≡_};
 ghost use Prim.Native.Nat.{ℕ, _+_, _-_, _<_, _≤_};
 ghost use lib.ListN.{getD};
+ghost use Rattle.effects.specs.Lent.{loopsOf};
 ghost use Rattle.machine.specs.Loops.{pushed, withPasses, popped};
-ghost use Rattle.machine.specs.Lent.{loopsOf};
 
 // A loop begins in the next slot: DO's number and its passes.
 pub fn push(start: usize, count: u32, depth: usize, starts: &mut [usize; 4], passes: &mut [u32; 4])

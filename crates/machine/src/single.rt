@@ -1,19 +1,19 @@
 // One step as a call that asks nothing.
-use crate::scalars::scalars_of;
-use crate::scalars::state_of;
-use crate::settings::Settings;
-use crate::state::State;
 use crate::step::step;
 use address::reversal::reversals;
+use effects::scalars::scalars_of;
+use effects::scalars::state_of;
 use program::answer::Verdict;
 use program::file::check_file;
 use program::file::operation_count;
+use state::settings::Settings;
+use state::state::State;
 ghost use mathlib.Core.Bool.{false};
 ghost use mathlib.Core.Path.{_≡_};
 ghost use Prim.Native.Nat.{_<_};
 ghost use Rattle.program.specs.File.{fileRefusal, operationCount, programOf};
+ghost use Rattle.state.specs.Accept.{stateRefusal};
 ghost use Rattle.machine.specs.Step.{stepped};
-ghost use Rattle.machine.specs.Accept.{stateRefusal};
 ghost use Rattle.machine.specs.Single.{callRefusal, Steps};
 
 // The refusal, 0 none; the trap, 0 none; whether a step was made; the state afterwards. Neither refused, trapped nor counted is done: pc is the
@@ -26,7 +26,7 @@ pub struct SingleStep {
 }
 
 // Refusals 1 to 7 of a call.
-fn refusal(file: &[u8], settings: Settings, state: State, words: usize) -> u8
+pub fn refusal(file: &[u8], settings: Settings, state: State, words: usize) -> u8
     ensures { λ r. ⌜ r ≡ callRefusal (now (file .entry)) settings state words ⌝ }
 {
     if let Verdict::Refused(r) = check_file(file) {

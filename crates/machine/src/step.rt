@@ -1,25 +1,26 @@
 // One step of the engine.
 use crate::control::control_of;
 use crate::control::proceed;
-use crate::effect::Effect;
-use crate::effect::effect_of;
-use crate::scalars::Scalars;
-use crate::settings::Settings;
 use crate::write::put;
 use crate::write::settle;
 use crate::write::word_of;
 use accumulator::mode::Mode;
+use effects::effect::Effect;
+use effects::effect::effect_of;
+use effects::scalars::Scalars;
+use operations::operation::Operation;
 use program::file::operation_at;
-use program::operation::Operation;
+use state::settings::Settings;
 ghost use mathlib.Core.Bool.{true};
 ghost use mathlib.Core.Path.{_≡_};
 ghost use Prim.Native.Nat.{_<_};
 ghost use Rattle.accumulator.specs.Limit.{isAccumulator};
 ghost use Rattle.address.specs.Reversal.{reversalTable};
 ghost use Rattle.program.specs.File.{fileRefusal, operationCount, programOf};
+ghost use Rattle.effects.specs.Lent.{stateOf, workIn};
 ghost use Rattle.machine.specs.Control.{controlOf, begins};
 ghost use Rattle.machine.specs.Step.{completed, stepped};
-ghost use Rattle.machine.specs.Lent.{stateOf, workIn, stepIn, Ready};
+ghost use Rattle.machine.specs.Lent.{stepIn, Ready};
 
 // What a step leaves: the scalars, its trap, 0 none, and whether it counts.
 pub struct Stepped {

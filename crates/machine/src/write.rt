@@ -1,22 +1,23 @@
 // The engine's writes: the exact result limited, with its flags and traps 5 to 7, and the one store.
-use crate::access::Place;
-use crate::effect::Exact;
-use crate::effect::Value;
-use crate::registers::set_register;
-use crate::scalars::Scalars;
-use crate::settings::traps_left;
-use crate::settings::traps_overflow;
 use accumulator::limit::left;
 use accumulator::limit::write;
 use accumulator::mode::Mode;
 use accumulator::mode::Target;
 use accumulator::store::store;
+use effects::access::Place;
+use effects::effect::Exact;
+use effects::effect::Value;
+use effects::registers::set_register;
+use effects::scalars::Scalars;
+use state::settings::traps_left;
+use state::settings::traps_overflow;
 ghost use mathlib.Core.List.{List};
 ghost use mathlib.Core.Path.{_≡_};
 ghost use Prim.Native.Nat.{ℕ};
 ghost use Rattle.accumulator.specs.Limit.{hasLeft, keptOf, overflows};
+ghost use Rattle.effects.specs.Lent.{stateOf};
 ghost use Rattle.machine.specs.Write.{overflowTrap, trapAfter, settleOf, valueWord, putRegister, putMemory};
-ghost use Rattle.machine.specs.Lent.{stateOf, settledIn};
+ghost use Rattle.machine.specs.Lent.{settledIn};
 
 // The scalars after an accumulator's write, and the trap after it: 5, 6, 7, or 0.
 pub struct Written {

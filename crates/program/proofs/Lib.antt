@@ -1,7 +1,4 @@
-pub mod DecodeExamples
 pub mod FileExamples
-pub mod Same
-pub mod Operations
 pub mod Slices
 pub mod Answers
 pub mod Blocks

@@ -1,7 +1,4 @@
 pub mod Bytes
-pub mod Encode
-pub mod Listed
-pub mod Decode
 pub mod Placement
 pub mod Answer
 pub mod Layout

@@ -5,10 +5,10 @@ use mathlib.Core.List.{List, [], _∷_}
 use lib.IntN.{ℤ, pos, _+ℤ_, _*ℤ_}
 use lib.ListN.{getD}
 use Rattle.integers.specs.Bits.{bitAt, signedOf}
-use Rattle.machine.specs.declared.settings.Circular.{Circular}
-use Rattle.machine.specs.declared.settings.Settings.{Settings}
-use Rattle.machine.specs.declared.state.Loops.{Loops}
-use Rattle.machine.specs.declared.state.State.{State}
+use Rattle.state.specs.declared.settings.Circular.{Circular}
+use Rattle.state.specs.declared.settings.Settings.{Settings}
+use Rattle.state.specs.declared.state.Loops.{Loops}
+use Rattle.state.specs.declared.state.State.{State}
 
 -- ---- numbers
 
@@ -45,6 +45,10 @@ fileSize head = longAt head 0
 -- at 4, 4 bytes: M, the words of memory
 abbrev pub memoryWords : List ℕ → ℕ
 memoryWords head = longAt head 4
+
+-- at 8, 4 bytes: the budget, or R, the bytes of lent output
+abbrev pub budgetIn : List ℕ → ℕ
+budgetIn head = longAt head 8
 
 -- ---- settings
 

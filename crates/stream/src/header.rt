@@ -1,16 +1,16 @@
 // A case's header of 112 bytes: sizes, settings and state. Numbers are low byte first.
 use address::step::Buffer;
 use address::word::ByteAddress;
-use machine::settings::Circular;
-use machine::settings::Reversed;
-use machine::settings::Settings;
-use machine::state::Core;
-use machine::state::Loops;
-use machine::state::State;
+use state::settings::Circular;
+use state::settings::Reversed;
+use state::settings::Settings;
+use state::state::Core;
+use state::state::Loops;
+use state::state::State;
 ghost use mathlib.Core.Path.{_≡_};
 ghost use Prim.Native.Nat.{_+_, _*_, _<_};
 ghost use Rattle.integers.specs.Bits.{signedOf};
-ghost use Rattle.stream.specs.Header.{wordOf, wordAt, longOf, longAt, numberOf, numberAt, fileSize, memoryWords, circularAt, settingsIn};
+ghost use Rattle.stream.specs.Header.{wordOf, wordAt, longOf, longAt, numberOf, numberAt, fileSize, memoryWords, budgetIn, circularAt, settingsIn};
 ghost use Rattle.stream.specs.Header.{registersIn, loopsIn, flagIn, stateIn};
 
 // 16 bits.
@@ -90,6 +90,13 @@ pub fn memory_words(head: [u8; 112]) -> usize
     ensures { λ r. ⌜ r ≡ memoryWords head ⌝ }
 {
     long_at(head, 4) as usize
+}
+
+// The budget of a run, or the bytes of lent output of a load or a write.
+pub fn budget(head: [u8; 112]) -> u32
+    ensures { λ r. ⌜ r ≡ budgetIn head ⌝ }
+{
+    long_at(head, 8)
 }
 
 // A circular register, its S and E.

@@ -3,31 +3,59 @@ use crate::number::print_number;
 use crate::number::print_signed;
 use crate::number::print_text;
 use crate::number::print_word;
-use machine::state::Core;
-use machine::state::Loops;
-use machine::state::State;
+use engine::ending::Ending;
+use program::answer::Answer;
+use state::state::Core;
+use state::state::Loops;
+use state::state::State;
+ghost use Prim.Native.Nat.{_≤_};
 
 // A space and a number.
-fn print_field(n: u64) {
+pub fn print_field(n: u64) {
     print_text(b" ");
     print_number(n);
 }
 
 // A space and a signed number.
-fn print_signed_field(v: i64) {
+pub fn print_signed_field(v: i64) {
     print_text(b" ");
     print_signed(v);
 }
 
 // A space and a word in hexadecimal.
-fn print_word_field(x: u16) {
+pub fn print_word_field(x: u16) {
     print_text(b" ");
     print_word(x);
+}
+
+// The length of a name that zeros fill up.
+fn length(name: [u8; 8]) -> usize
+    ensures { λ r. ⌜ r ≤ 8 ⌝ }
+{
+    let mut n = 0;
+    while n < 8 {
+        if name[n] == 0 {
+            return n;
+        }
+        n += 1;
+    }
+    n
+}
+
+// An ending's name.
+pub fn print_ending(ending: Ending) {
+    let name = ending.name();
+    print_text(&name[0..length(name)]);
 }
 
 // The check number with one number more: 31 h + x modulo 2^32.
 fn next_check(h: u32, x: u16) -> u32 {
     ((31 * h as u64 + x as u64) % 4294967296) as u32
+}
+
+// The same with a byte.
+fn next_check_byte(h: u32, x: u8) -> u32 {
+    next_check(h, x as u16)
 }
 
 // The check number of all words.
@@ -36,6 +64,17 @@ fn check(memory: &[u16]) -> u32 {
     let mut i = 0;
     while i < memory.len() {
         h = next_check(h, memory[i]);
+        i += 1;
+    }
+    h
+}
+
+// The check number of all bytes.
+fn check_bytes(s: &[u8]) -> u32 {
+    let mut h = 0;
+    let mut i = 0;
+    while i < s.len() {
+        h = next_check_byte(h, s[i]);
         i += 1;
     }
     h
@@ -89,5 +128,18 @@ pub fn print_rest(steps: u64, state: State, memory: &[u16]) {
     print_field(steps);
     print_core(core, state.status());
     print_field(check(memory) as u64);
+    print_text(b"\n");
+}
+
+// The line of a load or a write: the verb or the refusal, the bytes written, the check number of the lent slice.
+pub fn print_filled(verb: &[u8], answer: Answer, slice: &[u8]) {
+    if answer.number() == 0 {
+        print_text(verb);
+    } else {
+        print_text(b"refused");
+        print_number(answer.number() as u64);
+    }
+    print_field(answer.bytes() as u64);
+    print_field(check_bytes(slice) as u64);
     print_text(b"\n");
 }

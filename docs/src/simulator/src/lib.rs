@@ -3,7 +3,9 @@
 
 pub mod accumulator;
 pub mod address;
+pub mod assemble;
 pub mod cases;
+pub mod command;
 pub mod decode;
 pub mod encode;
 pub mod ending;
@@ -20,6 +22,7 @@ pub mod operation;
 pub mod placement;
 pub mod prefetch;
 pub mod requests;
+pub mod samples;
 pub mod settings;
 pub mod state;
 pub mod status;

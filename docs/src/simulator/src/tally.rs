@@ -2,19 +2,30 @@
 
 use std::io::{self, Read};
 
+use crate::cases::{Case, What};
 use crate::ending::Ending;
-use crate::engine::run;
 use crate::file::{BLOCK, MOST_BLOCKS};
 use crate::settings::Settings;
 use crate::state::State;
 use crate::status::status_word;
 
-/// The line for a file: 1,024 words X and 1,024 Y of zeros, reset state, no
-/// correction, trap word 0, budget 100,000.
+/// The run of a file as a case: 1,024 words X and 1,024 Y of zeros, reset state,
+/// no correction, trap word 0, budget 100,000.
+pub fn tally_case(file: &[u8]) -> Case {
+    Case {
+        what: What::Run,
+        file: file.to_vec(),
+        memory: vec![0; 2_048],
+        budget: 100_000,
+        settings: Settings::plain(1_024),
+        state: State::reset(),
+    }
+}
+
+/// The line for a file.
 pub fn tally_line(file: &[u8]) -> String {
-    let mut memory = [0; 2_048];
-    let settings = Settings::plain(1_024);
-    let outcome = run(file, &settings, &State::reset(), &mut memory, 100_000);
+    let case = tally_case(file);
+    let (outcome, _) = case.run(case.budget);
     if let Ending::Refused(_) = outcome.ending {
         return format!("{}\n", outcome.ending);
     }

@@ -3,12 +3,15 @@
 //! rounded store that needed no limiting is within half a unit of the exact
 //! value.
 
+mod common;
+use common::{end_alike, engine_word, ledger_of};
+
 use simulator::cases::Case;
 use simulator::generate::case::{accepted_run, candidate};
 use simulator::generate::random::Random;
 use simulator::ledger::{LedgerEnding, LedgerOutcome, ListedStore};
 use simulator::operand::Place;
-use simulator::{ledger_run, Ending, Outcome, Trap};
+use simulator::{Ending, Outcome, Trap};
 
 #[derive(Debug, Default)]
 struct Seen {
@@ -29,40 +32,6 @@ struct Seen {
     mid_loop: usize,
     mid_repeat: usize,
     steps: u64,
-}
-
-fn ledger_of(case: &Case) -> LedgerOutcome {
-    ledger_run(
-        &case.file,
-        &case.settings,
-        &case.state,
-        &case.memory,
-        case.budget,
-    )
-}
-
-/// Everything the ledger has is as the engine's.
-fn end_alike(outcome: &Outcome, memory: &[u16], ledger: &LedgerOutcome) {
-    let (state, exact) = (&outcome.state, &ledger.state);
-    assert_eq!(state.accumulators.map(i128::from), exact.accumulators);
-    assert_eq!(state.w, exact.w);
-    assert_eq!(state.flow, exact.flow);
-    assert_eq!(state.mode, exact.mode);
-    assert_eq!(state.overflow, exact.overflow);
-    assert_eq!(memory, ledger.memory);
-    assert_eq!(outcome.steps, ledger.steps);
-    assert_eq!(LedgerEnding::AsRun(outcome.ending), ledger.ending);
-}
-
-/// The engine's stored word at a store's step, by a run of its own.
-fn engine_word(case: &Case, store: &ListedStore) -> i128 {
-    let (outcome, memory) = case.run(store.step);
-    assert_eq!(outcome.steps, store.step);
-    let word = match store.place {
-        Place::Register(register) => outcome.state.w[usize::from(register)],
-        Place::Memory(index) => memory[index.0],
-    };
-    i128::from(word as i16)
 }
 
 fn check_store(case: &Case, store: &ListedStore, seen: &mut Seen) {

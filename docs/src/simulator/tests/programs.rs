@@ -81,22 +81,34 @@ fn files_writes_requests_and_answers() {
     assert_eq!(answers.iter().filter(|&&byte| byte == b'\n').count(), 20);
 }
 
-#[test]
-fn files_refuses_bad_arguments_and_what_is_no_stream() {
-    let files = env!("CARGO_BIN_EXE_files");
-    for arguments in [
-        &[][..],
-        &["other"],
-        &["random", "1"],
-        &["random", "x", "1"],
-        &["random", "1", "65536"],
-        &["answers"],
-    ] {
-        let output = started(files, arguments, &[1]);
+/// With these arguments and one byte of input the program fails with a message.
+fn refuses(program: &str, all: &[&[&str]]) {
+    for arguments in all {
+        let output = started(program, arguments, &[1]);
         assert!(!output.status.success(), "{arguments:?}");
         assert!(output.stdout.is_empty());
         assert!(!output.stderr.is_empty());
     }
+}
+
+#[test]
+fn bad_arguments_and_what_is_no_stream_are_refused() {
+    let random: [&[&str]; 3] = [
+        &["random", "1"],
+        &["random", "x", "1"],
+        &["random", "1", "65536"],
+    ];
+    let others: [&[&str]; 2] = [&[], &["other"]];
+    let (files, steps) = (env!("CARGO_BIN_EXE_files"), env!("CARGO_BIN_EXE_steps"));
+    for program in [files, steps] {
+        refuses(program, &random);
+        refuses(program, &others);
+    }
+    refuses(files, &[&["answers"]]);
+    refuses(steps, &[&["lines"]]);
+    refuses(env!("CARGO_BIN_EXE_runs"), &others);
+    refuses(env!("CARGO_BIN_EXE_speed"), &others);
+    refuses(env!("CARGO_BIN_EXE_speed"), &[&["case"], &["case", "x"]]);
 }
 
 #[test]
@@ -114,19 +126,70 @@ fn steps_writes_cases_and_lines() {
 }
 
 #[test]
-fn steps_refuses_bad_arguments_and_what_is_no_stream() {
-    let steps = env!("CARGO_BIN_EXE_steps");
-    for arguments in [
-        &[][..],
-        &["other"],
-        &["random", "1"],
-        &["random", "x", "1"],
-        &["random", "1", "65536"],
-        &["lines"],
-    ] {
-        let output = started(steps, arguments, &[1]);
-        assert!(!output.status.success(), "{arguments:?}");
-        assert!(output.stdout.is_empty());
-        assert!(!output.stderr.is_empty());
+fn runs_writes_the_stored_stream_and_its_parts() {
+    let runs = env!("CARGO_BIN_EXE_runs");
+    let stream = started(runs, &["stream"], &[]).stdout;
+    assert!(stream == stored_case_files("stdin"));
+    let cases = env!("CARGO_BIN_EXE_cases");
+    assert!(started(cases, &[], &stream).stdout == stored_case_files("stdout"));
+    let parts = started(runs, &["parts"], &[]).stdout;
+    assert!(parts.starts_with(b"budgets "));
+}
+
+#[test]
+fn files_writes_the_example_and_tally_its_line() {
+    let files = env!("CARGO_BIN_EXE_files");
+    let file = started(files, &["example"], &[]).stdout;
+    assert_eq!(file, stored_tally("stdin"));
+    let tally = env!("CARGO_BIN_EXE_tally");
+    assert_eq!(started(tally, &[], &file).stdout, stored_tally("stdout"));
+}
+
+#[test]
+fn speed_writes_the_stored_cases() {
+    let speed = env!("CARGO_BIN_EXE_speed");
+    for name in ["repeat", "loop"] {
+        let case = started(speed, &["case", name], &[]).stdout;
+        assert_eq!(case, stored_speed(name));
     }
+}
+
+#[test]
+fn assemble_writes_a_program_file_or_says_why_not() {
+    let assemble = env!("CARGO_BIN_EXE_assemble");
+    for name in simulator::samples::NAMES {
+        let output = started(assemble, &[], &stored_sample(&format!("{name}.txt")));
+        assert!(output.status.success() && output.stderr.is_empty());
+        assert_eq!(output.stdout, stored_sample(&format!("{name}.bin")));
+    }
+    let long = vec![b'#'; 100_000];
+    let refused = [
+        (&b""[..], "refused1\n"),
+        (b"00 00 00 00 00 00 00 00\n", "refused4\n"),
+        (b"13 00 00 00 00 00 00 00\n", "refused5\n"),
+        (b"MAC\n", "badtext\n"),
+        (&long, "badtext\n"),
+    ];
+    for (text, why) in refused {
+        let output = started(assemble, &[], text);
+        assert_eq!(output.status.code(), Some(1));
+        assert!(output.stdout.is_empty());
+        assert_eq!(output.stderr, why.as_bytes());
+    }
+}
+
+#[test]
+fn samples_writes_the_cases() {
+    let samples = env!("CARGO_BIN_EXE_samples");
+    let cases = env!("CARGO_BIN_EXE_cases");
+    for name in simulator::samples::NAMES {
+        let file = stored_sample(&format!("{name}.bin"));
+        let case = started(samples, &[name], &file).stdout;
+        assert_eq!(case, stored_sample(&format!("{name}.case")));
+        let line = started(cases, &[], &case).stdout;
+        assert_eq!(line, stored_sample(&format!("{name}.line")));
+    }
+    let output = started(samples, &["other"], &[]);
+    assert!(!output.status.success());
+    assert!(output.stdout.is_empty() && !output.stderr.is_empty());
 }

@@ -25,10 +25,7 @@ fn stored_steps() {
 
 #[test]
 fn the_parts_have_these_lengths() {
-    let lengths: Vec<(&str, usize)> = parts()
-        .into_iter()
-        .map(|(name, cases)| (name, cases.len()))
-        .collect();
+    let lengths = lengths(parts());
     let said = [
         ("kinds", 339),
         ("old", 62),

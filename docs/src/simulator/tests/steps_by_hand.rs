@@ -6,29 +6,9 @@ mod common;
 use common::*;
 use simulator::{BitReversed, Circular};
 
-/// The first two words are X's, the others Y's; all else as after reset.
-fn memory(words: [u16; 4]) -> Bench {
-    parted(words, 2)
-}
-
-fn parted(words: [u16; 4], x_words: u16) -> Bench {
-    let mut bench = Bench::sized(4, x_words);
-    bench.memory = words.to_vec();
-    bench
-}
-
-const NO_LOOPS: &str = "0 0:0 0:0 0:0 0:0";
-
-/// The line's fields: up to the mode word, the loops, the registers that are
-/// not zero, the memory's check.
+/// The line of the step, as `whole_line` has it.
 fn gives(bench: Bench, ops: &[Op], start: &str, loops: &str, w: &[(usize, u16)], check: u32) {
-    let mut registers = [0; 14];
-    for &(register, word) in w {
-        registers[register] = word;
-    }
-    let words: Vec<String> = registers.iter().map(|w| format!("{w:04X}")).collect();
-    let expected = format!("{start} {loops} {} {check}", words.join(" "));
-    assert_eq!(bench.step_line(ops), expected);
+    assert_eq!(bench.step_line(ops), whole_line(start, loops, w, check));
 }
 
 // ---- kinds 1 to 7

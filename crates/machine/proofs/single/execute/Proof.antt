@@ -4,11 +4,11 @@ use Prim.Native.Nat.{_-_, _<_}
 use lib.ListN.{length}
 use denote.Ref.{now}
 use Rattle.integers.proofs.Whole.{same}
-use Rattle.machine.specs.Lent.{stateOf}
+use Rattle.effects.specs.Lent.{stateOf}
 use Rattle.program.specs.File.{operationCount, programOf}
 use Rattle.program.proofs.Accepted.{accepted-blocks, program-length}
+use Rattle.state.specs.declared.state.State.{State}
 use Rattle.machine.proofs.Standing.{Standing, accepted-standing, standing-ready}
-use Rattle.machine.specs.declared.state.State.{State}
 use Rattle.program.proofs.Places.{count-range}
 use borrow.Author.Needs.{needs}
 use Rattle.machine.proofs.single.execute.Statement.{statement}

@@ -2,7 +2,7 @@
 use mathlib.Core.Path.{sym, ap, _∙_}
 use Prim.Native.Nat.{_-_}
 use Rattle.program.proofs.Answers.{then-refused, then-go}
-use Rattle.machine.proofs.Traps.{first-some}
+use Rattle.effects.proofs.Traps.{first-some}
 use Rattle.machine.specs.Single.{callRefusal}
 use Rattle.program.specs.Answer.{verdictNumber}
 use borrow.Author.Needs.{needs}

@@ -2,12 +2,12 @@
 use mathlib.Core.Path.{_≡_, ap, _∙_}
 use Prim.Native.Nat.{_-_}
 use denote.Ref.{now}
+use Rattle.effects.specs.Lent.{stateOf}
 use Rattle.machine.specs.Step.{completed}
-use Rattle.machine.specs.Lent.{stateOf}
 use mathlib.Core.List.{[]}
+use Rattle.state.specs.declared.state.Loops.{Loops}
 use Rattle.machine.proofs.Works.{settled-pc, settled-loops}
 use Rattle.machine.specs.Write.{Settled}
-use Rattle.machine.specs.declared.state.Loops.{Loops}
 use borrow.Author.Needs.{needs}
 use Rattle.machine.proofs.step.complete.Statement.{statement}
 use Rattle.machine.proofs.step.complete.Tie as tie

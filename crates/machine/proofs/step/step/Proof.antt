@@ -4,14 +4,15 @@ use Prim.Native.Nat.{_-_}
 use borrow.Author.Tests.{eq-eqb, ne-eqb}
 use denote.Ref.{now}
 use Rattle.integers.proofs.Whole.{same}
-use Rattle.machine.specs.Effect.{Work}
-use Rattle.machine.specs.Operations.{workOf}
+use Rattle.effects.specs.Effect.{Work}
+use Rattle.effects.specs.Operations.{workOf}
+use Rattle.effects.specs.Lent.{coreOf, workIn}
 use Rattle.machine.specs.Step.{completed, stepped}
-use Rattle.machine.specs.Lent.{coreOf, workIn}
 use Rattle.program.proofs.Accepted.{program-listed}
-use Rattle.machine.proofs.Works.{trap-leaves, slot-free}
-use Rattle.program.specs.declared.operation.Operation.the-variants.{EndEarly}
-use Rattle.machine.specs.declared.state.Core.{Core}
+use Rattle.effects.proofs.Works.{trap-leaves}
+use Rattle.machine.proofs.Works.{slot-free}
+use Rattle.operations.specs.declared.operation.Operation.the-variants.{EndEarly}
+use Rattle.state.specs.declared.state.Core.{Core}
 use borrow.Author.Needs.{needs}
 use Rattle.machine.proofs.step.step.Statement.{statement}
 use Rattle.machine.proofs.step.step.Tie as tie

@@ -7,7 +7,7 @@ use Rattle.machine.specs.Write.{trapAfter}
 use mathlib.Core.Bool.{_&&_}
 use Rattle.accumulator.specs.Mode.{saturates}
 use Rattle.accumulator.specs.Limit.{hasLeft, keptOf, overflows}
-use Rattle.machine.specs.Settings.{trapsLeft}
+use Rattle.state.specs.Settings.{trapsLeft}
 use borrow.Author.Needs.{needs}
 use Rattle.machine.proofs.write.trap_after.Statement.{statement}
 use Rattle.machine.proofs.write.trap_after.Tie as tie

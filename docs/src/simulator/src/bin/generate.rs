@@ -5,14 +5,10 @@ use std::fs::File;
 use std::io::BufWriter;
 use std::process::ExitCode;
 
+use simulator::command::exit_code;
+
 fn main() -> ExitCode {
-    match generate() {
-        Ok(()) => ExitCode::SUCCESS,
-        Err(message) => {
-            eprintln!("{message}");
-            ExitCode::FAILURE
-        }
-    }
+    exit_code(generate())
 }
 
 fn generate() -> Result<(), String> {

@@ -7,7 +7,7 @@ use super::start;
 use crate::cases::{Case, What};
 use crate::encode::encode_all;
 use crate::file::{file_length, write, MOST_OPERATIONS};
-use crate::operation::Operation;
+use crate::operation::{Factors, Operation, Prefetch, Target};
 use crate::settings::Settings;
 use crate::state::State;
 
@@ -17,6 +17,17 @@ pub fn file_of(operations: &[Operation]) -> Vec<u8> {
     let written = write(&encode_all(operations), &mut file);
     debug_assert_eq!(written, Ok(file.len()));
     file
+}
+
+/// The file of document 01's example: literal 3 to W4, literal FFFE hex to W5,
+/// MPY to A.
+pub fn example() -> Vec<u8> {
+    let none = Prefetch { x: None, y: None };
+    file_of(&[
+        Operation::Literal(4, 3),
+        Operation::Literal(5, 0xFFFE),
+        Operation::Mpy(Target::A, Factors { m: 4, n: 5 }, none),
+    ])
 }
 
 fn operation_count(random: &mut Random) -> usize {

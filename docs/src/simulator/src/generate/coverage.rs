@@ -5,7 +5,7 @@ use std::collections::BTreeMap;
 use crate::address::{circular_step, plain_step};
 use crate::cases::{line, next_case, Case, What};
 use crate::ending::Ending;
-use crate::engine::accept;
+use crate::engine::{accept, Outcome};
 use crate::memory::Memory;
 use crate::operation::{Change, Operand, Operation, ReadAddress, Register};
 use crate::settings::Settings;
@@ -56,46 +56,21 @@ impl Coverage {
         *self.endings.entry(name).or_default() += 1;
     }
 
-    /// Count a run's kinds by stepping through it.
+    /// Count a run's start, and its kinds by stepping through it.
     fn add_run(&mut self, case: &Case) -> Ending {
-        let (settings, state) = (&case.settings, &case.state);
-        let mut memory = case.memory.clone();
-        let operations = match accept(&case.file, settings, state, memory.len()) {
-            Ok(operations) => operations,
-            Err(number) => return Ending::Refused(number),
-        };
-        self.mid_loop_starts += usize::from(state.flow.active > 0);
-        self.mid_repeat_starts += usize::from(state.flow.repeat > 0);
-        let mut machine = Machine {
-            state: *state,
-            operations: &operations,
-            settings,
-            memory: Memory::new(&mut memory, settings.x_words),
-        };
-        let mut steps = 0;
-        let ending = loop {
-            let pc = usize::from(machine.state.flow.pc);
-            let Some(operation) = operations.get(pc) else {
-                break Ending::Done;
-            };
-            if steps == case.budget {
-                break Ending::Spent;
-            }
-            let before = machine.state;
-            let step = machine.step();
-            if let Step::Blocked(trap) = step {
-                break Ending::Trap(trap);
-            }
-            steps += 1;
-            self.note(operation, &before, settings);
-            if let Step::Trapped(trap) = step {
-                break Ending::Trap(trap);
-            }
-        };
-        self.steps += u64::from(steps);
+        let flow = &case.state.flow;
+        let outcome = walk(case, |operation, before| {
+            self.note(operation, before, &case.settings)
+        });
+        if !matches!(outcome.ending, Ending::Refused(_)) {
+            self.mid_loop_starts += usize::from(flow.active > 0);
+            self.mid_repeat_starts += usize::from(flow.repeat > 0);
+        }
+        let steps = u64::from(outcome.steps);
+        self.steps += steps;
         self.long_runs += usize::from(steps >= 100);
-        self.most_steps = self.most_steps.max(u64::from(steps));
-        ending
+        self.most_steps = self.most_steps.max(steps);
+        outcome.ending
     }
 
     /// Count one executed operation by the state before it.
@@ -120,6 +95,49 @@ impl Coverage {
             self.reversed_steps += 1;
         }
     }
+}
+
+/// A case's run step by step: each executed operation, traps without effect not
+/// among them, is visited with the state before it.
+pub fn walk(case: &Case, mut visit: impl FnMut(&Operation, &State)) -> Outcome {
+    let (settings, state) = (&case.settings, &case.state);
+    let mut memory = case.memory.clone();
+    let outcome = |ending, state, steps| Outcome {
+        ending,
+        state,
+        steps,
+    };
+    let operations = match accept(&case.file, settings, state, memory.len()) {
+        Ok(operations) => operations,
+        Err(number) => return outcome(Ending::Refused(number), *state, 0),
+    };
+    let mut machine = Machine {
+        state: *state,
+        operations: &operations,
+        settings,
+        memory: Memory::new(&mut memory, settings.x_words),
+    };
+    let mut steps = 0;
+    let ending = loop {
+        let pc = usize::from(machine.state.flow.pc);
+        let Some(operation) = operations.get(pc) else {
+            break Ending::Done;
+        };
+        if steps == case.budget {
+            break Ending::Spent;
+        }
+        let before = machine.state;
+        let step = machine.step();
+        if let Step::Blocked(trap) = step {
+            break Ending::Trap(trap);
+        }
+        steps += 1;
+        visit(operation, &before);
+        if let Step::Trapped(trap) = step {
+            break Ending::Trap(trap);
+        }
+    };
+    outcome(ending, machine.state, steps)
 }
 
 /// The X and Y read of an operation.

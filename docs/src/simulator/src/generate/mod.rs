@@ -1,6 +1,7 @@
 //! Case streams with the lines that must be printed for them, request streams,
-//! and streams of single steps.
+//! streams of single steps, and the stored stream of runs.
 
+pub mod bench;
 pub mod blocks;
 pub mod case;
 pub mod coverage;
@@ -9,12 +10,15 @@ pub mod edges;
 pub mod forms;
 pub mod layout;
 pub mod misses;
+pub mod ops;
 pub mod places;
 pub mod program;
 pub mod random;
 pub mod requests;
+pub mod runs;
 pub mod simple;
 pub mod special;
+pub mod speed;
 pub mod start;
 pub mod steps;
 pub mod tiny;

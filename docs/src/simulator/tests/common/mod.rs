@@ -2,6 +2,8 @@
 #![allow(dead_code)]
 
 use simulator::cases::{Case, What};
+use simulator::ledger::{LedgerEnding, LedgerOutcome, ListedStore};
+use simulator::operand::Place;
 use simulator::{ledger, Outcome, Settings, State};
 
 pub type Op = [u8; 8];
@@ -112,23 +114,82 @@ pub fn set_sum(file: &mut [u8]) {
     }
 }
 
-/// Where the proved programs stand: next to the folder of these documents.
-const CRATES: &str = concat!(env!("CARGO_MANIFEST_DIR"), "/../../../crates/");
+/// The folder that holds crates, docs and samples.
+const ROOT: &str = concat!(env!("CARGO_MANIFEST_DIR"), "/../../../");
 
-/// A file stored with a proved program that this workspace answers for too.
-fn stored(program: &str, name: &str) -> Vec<u8> {
-    let path = format!("{CRATES}{program}/{name}");
+/// A file stored there that this workspace answers for too.
+fn stored(name: &str) -> Vec<u8> {
+    let path = format!("{ROOT}{name}");
     std::fs::read(&path).unwrap_or_else(|error| panic!("{path}: {error}"))
+}
+
+/// The stored case to time, `repeat` or `loop`.
+pub fn stored_speed(name: &str) -> Vec<u8> {
+    stored(&format!("docs/speed/{name}.case"))
+}
+
+/// The number of cases in each part of a stream.
+pub fn lengths<T>(parts: Vec<(&'static str, Vec<T>)>) -> Vec<(&'static str, usize)> {
+    let length = |(name, cases): (&'static str, Vec<T>)| (name, cases.len());
+    parts.into_iter().map(length).collect()
 }
 
 /// The stored request stream or its answers.
 pub fn stored_requests(name: &str) -> Vec<u8> {
-    stored("files", name)
+    stored(&format!("crates/files/{name}"))
 }
 
 /// The stored stream of single steps or its lines.
 pub fn stored_step_files(name: &str) -> Vec<u8> {
-    stored("steps", name)
+    stored(&format!("crates/steps/{name}"))
+}
+
+/// A file of a sample: its text, program file, case or line.
+pub fn stored_sample(name: &str) -> Vec<u8> {
+    stored(&format!("samples/{name}"))
+}
+
+/// The stored input or output of the proved assembler.
+pub fn stored_assembly(name: &str) -> Vec<u8> {
+    stored(&format!("crates/assemble/{name}"))
+}
+
+/// The stored stream of runs or its lines.
+pub fn stored_case_files(name: &str) -> Vec<u8> {
+    stored(&format!("crates/cases/{name}"))
+}
+
+/// The stored input or output of tally.
+pub fn stored_tally(name: &str) -> Vec<u8> {
+    stored(&format!("crates/tally/{name}"))
+}
+
+/// Four words of memory, the first two X's; all else as after reset.
+pub fn memory(words: [u16; 4]) -> Bench {
+    parted(words, 2)
+}
+
+pub fn parted(words: [u16; 4], x_words: u16) -> Bench {
+    holding(&words, x_words)
+}
+
+pub fn holding(words: &[u16], x_words: u16) -> Bench {
+    let mut bench = Bench::sized(words.len(), x_words);
+    bench.memory = words.to_vec();
+    bench
+}
+
+pub const NO_LOOPS: &str = "0 0:0 0:0 0:0 0:0";
+
+/// A line's fields: up to the mode word, the loops, the registers that are not
+/// zero, the memory's check.
+pub fn whole_line(start: &str, loops: &str, w: &[(usize, u16)], check: u32) -> String {
+    let mut registers = [0; 14];
+    for &(register, word) in w {
+        registers[register] = word;
+    }
+    let words: Vec<String> = registers.iter().map(|w| format!("{w:04X}")).collect();
+    format!("{start} {loops} {} {check}", words.join(" "))
 }
 
 /// 64 words of memory, X 1000..103F, Y 1040..107F hex.
@@ -232,16 +293,21 @@ impl Bench {
         )
     }
 
-    /// The line of a single step.
-    pub fn step_line(&self, ops: &[Op]) -> String {
-        simulator::steps::line(&Case {
+    /// The case of a run from this bench.
+    pub fn case(&self, ops: &[Op]) -> Case {
+        Case {
             what: What::Run,
             file: file_of(ops),
             memory: self.memory.clone(),
-            budget: 1,
+            budget: self.budget,
             settings: self.settings,
             state: self.state,
-        })
+        }
+    }
+
+    /// The line of a single step.
+    pub fn step_line(&self, ops: &[Op]) -> String {
+        simulator::steps::line(&self.case(ops))
     }
 
     /// Run, and ask that it was refused with this number and changed nothing.
@@ -282,4 +348,39 @@ pub fn trap(number: u8) -> simulator::Ending {
             OverflowB,
         ][usize::from(number) - 1],
     )
+}
+
+/// The ledger from the start of a case.
+pub fn ledger_of(case: &Case) -> LedgerOutcome {
+    simulator::ledger_run(
+        &case.file,
+        &case.settings,
+        &case.state,
+        &case.memory,
+        case.budget,
+    )
+}
+
+/// Everything the ledger has is as the engine's.
+pub fn end_alike(outcome: &Outcome, memory: &[u16], ledger: &LedgerOutcome) {
+    let (state, exact) = (&outcome.state, &ledger.state);
+    assert_eq!(state.accumulators.map(i128::from), exact.accumulators);
+    assert_eq!(state.w, exact.w);
+    assert_eq!(state.flow, exact.flow);
+    assert_eq!(state.mode, exact.mode);
+    assert_eq!(state.overflow, exact.overflow);
+    assert_eq!(memory, ledger.memory);
+    assert_eq!(outcome.steps, ledger.steps);
+    assert_eq!(LedgerEnding::AsRun(outcome.ending), ledger.ending);
+}
+
+/// The engine's stored word at a store's step, by a run of its own.
+pub fn engine_word(case: &Case, store: &ListedStore) -> i128 {
+    let (outcome, memory) = case.run(store.step);
+    assert_eq!(outcome.steps, store.step);
+    let word = match store.place {
+        Place::Register(register) => outcome.state.w[usize::from(register)],
+        Place::Memory(index) => memory[index.0],
+    };
+    i128::from(word as i16)
 }

@@ -2,8 +2,8 @@
 //! far, a fifth loop. Flags, loops and repeats are set, so that a change would
 //! show; some steps just beside are complete.
 
-use super::bench::Bench;
-use super::ops::*;
+use crate::generate::bench::Bench;
+use crate::generate::ops::*;
 
 /// X at W8, Y at W10, a write at W13: 1004, 1016, 100A hex are good.
 type Addresses = (u16, u16, u16);

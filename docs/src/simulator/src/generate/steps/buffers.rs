@@ -1,7 +1,7 @@
 //! Circular buffers of X and Y: round at E and at S, beside, in every use.
 
-use super::bench::Bench;
-use super::ops::*;
+use crate::generate::bench::Bench;
+use crate::generate::ops::*;
 
 /// X's buffer: 1004..100B hex; Y's: 1014..101B hex, four words each.
 const X: (u16, u16) = (0x1004, 0x100B);

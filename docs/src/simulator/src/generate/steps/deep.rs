@@ -1,9 +1,9 @@
 //! The third and the fourth of nested loops, and programs that go on past the
 //! first block.
 
-use super::bench::Bench;
-use super::ops::*;
+use crate::generate::bench::Bench;
 use crate::generate::forms::Bytes;
+use crate::generate::ops::*;
 
 pub fn cases() -> Vec<Bench> {
     let mut all = innermost();

@@ -1,11 +1,11 @@
 //! Refusals 1 to 5 of the program file, and two refusals at once: the first in
 //! the order of a run counts.
 
-use super::bench::Bench;
-use super::ops::*;
 use crate::file::{blocks_of, BLOCK};
+use crate::generate::bench::Bench;
 use crate::generate::blocks::{with, with_sums};
 use crate::generate::forms::Bytes;
+use crate::generate::ops::*;
 
 pub fn cases() -> Vec<Bench> {
     let mut all = lengths();

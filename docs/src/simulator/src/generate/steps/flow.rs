@@ -1,8 +1,8 @@
 //! Where a step leads: loops, repeats, kind 23, REPEAT and DO, the end.
 
-use super::bench::Bench;
-use super::ops::*;
+use crate::generate::bench::Bench;
 use crate::generate::forms::Bytes;
+use crate::generate::ops::*;
 
 pub fn cases() -> Vec<Bench> {
     let mut all = last_places();

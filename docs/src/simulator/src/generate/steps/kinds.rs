@@ -1,9 +1,9 @@
 //! Every kind in every form. Mode words, accumulators and flags take turns, so
 //! that each setting meets many forms; all of these steps are complete.
 
-use super::bench::Bench;
-use super::ops::*;
+use crate::generate::bench::Bench;
 use crate::generate::forms::{mode_word, reads, Bytes};
+use crate::generate::ops::*;
 
 /// Accumulators by turns: small, within 32 bits, beyond them.
 const A: [i64; 5] = [

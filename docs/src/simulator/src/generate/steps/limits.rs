@@ -1,10 +1,10 @@
 //! Exact results just inside and just outside of each limit, for A and B, in
 //! each saturation mode; O redone and S staying.
 
-use super::bench::Bench;
-use super::ops::*;
 use crate::accumulator::{NARROW, WIDE};
+use crate::generate::bench::Bench;
 use crate::generate::forms::Bytes;
+use crate::generate::ops::*;
 
 /// SATA and SATB.
 const SATURATION: [u16; 2] = [0x0080, 0x0040];

@@ -1,6 +1,5 @@
 //! The stored stream of single steps, and random ones.
 
-pub mod bench;
 pub mod blocked;
 pub mod buffers;
 pub mod deep;
@@ -9,7 +8,6 @@ pub mod flow;
 pub mod kinds;
 pub mod limits;
 pub mod old;
-pub mod ops;
 pub mod raised;
 pub mod random;
 pub mod reversed;
@@ -19,7 +17,7 @@ pub mod stores;
 
 use super::random::Random;
 use crate::cases::Case;
-use bench::Bench;
+use crate::generate::bench::Bench;
 
 const SEED: u64 = 1;
 const RANDOM_STEPS: usize = 200;

@@ -1,7 +1,7 @@
 //! Old registers: what is read before it is changed in the same step.
 
-use super::bench::Bench;
-use super::ops::*;
+use crate::generate::bench::Bench;
+use crate::generate::ops::*;
 
 /// The kinds with a write-back, each with a target.
 const WRITING_BACK: [(u8, u8); 4] = [(1, 0), (3, 1), (4, 0), (7, 1)];

@@ -1,8 +1,8 @@
 //! Traps 5, 6 and 7: each alone and in their order, in every kind that writes an
 //! accumulator; flags that do not trap; the step complete.
 
-use super::bench::Bench;
-use super::ops::*;
+use crate::generate::bench::Bench;
+use crate::generate::ops::*;
 
 const TOP: i64 = (1 << 39) - 1;
 const BOTTOM: i64 = -(1 << 39);

@@ -1,7 +1,7 @@
 //! The bit-reversed register: stores of form 2, and everything else at it.
 
-use super::bench::Bench;
-use super::ops::*;
+use crate::generate::bench::Bench;
+use crate::generate::ops::*;
 
 pub fn cases() -> Vec<Bench> {
     let mut all = stores();

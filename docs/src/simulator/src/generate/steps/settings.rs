@@ -1,8 +1,8 @@
 //! Refusal 6: memory and each setting at its edge, and the value beside it that
 //! is accepted.
 
-use super::bench::Bench;
-use super::ops::*;
+use crate::generate::bench::Bench;
+use crate::generate::ops::*;
 
 pub fn cases() -> Vec<Bench> {
     let mut all = sizes();

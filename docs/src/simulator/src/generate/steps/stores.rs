@@ -1,7 +1,7 @@
 //! Stores: ties with each RND, SATDW at its limits, shifts before them.
 
-use super::bench::Bench;
-use super::ops::*;
+use crate::generate::bench::Bench;
+use crate::generate::ops::*;
 
 const SATDW: u16 = 0x0020;
 const RND: u16 = 0x0002;

@@ -1,0 +1,3 @@
+pub mod Traps
+pub mod Sums
+pub mod Works

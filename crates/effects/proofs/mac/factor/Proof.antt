@@ -1,0 +1,11 @@
+-- `mac::factor` meets its contract. Assumes nothing.
+use Prim.Native.Nat.{_-_}
+use borrow.Author.Needs.{needs}
+use Rattle.effects.proofs.mac.factor.Statement.{statement}
+use Rattle.effects.proofs.mac.factor.Tie as tie
+
+returns : tie.Need-returns
+returns c = rw (c .register .ensures)
+
+pub factor-spec : {M : Type 1} → statement M
+factor-spec = tie.close (tie.spec (λ c κs. search needs) returns)

@@ -1,0 +1,8 @@
+-- What an operation comes to, in the order of document 01: "Operations" and "Addresses" (pointers, accesses, effects). Lent ties the pieces that the
+-- stepping code is handed to a state.
+pub mod Pointer
+pub mod Access
+pub mod Effect
+pub mod Mac
+pub mod Operations
+pub mod Lent

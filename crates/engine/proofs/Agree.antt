@@ -1,0 +1,200 @@
+-- From clear flags the engine's run is the ledger's, or the ledger leaves the limits and a flag stays set to the end. Assumes nothing.
+use Prim.Native.Nat.{ℕ, zero, suc}
+use mathlib.Core.Bool.{Bool, true, false, cond}
+use mathlib.Core.Path.{_≡_, refl, _∙_}
+use mathlib.Core.Logic.{_⊎_, inl, inr, ⊎-elim}
+use mathlib.Core.List.{List, [], _∷_}
+use lib.Dec.{eqb}
+use lib.IntN.{ℤ}
+use Rattle.integers.proofs.Whole.{by-test, neither}
+use Rattle.accumulator.specs.Mode.{modeOf}
+use Rattle.accumulator.specs.Limit.{hasLeft, overflows, writeOf}
+use Rattle.accumulator.specs.declared.mode.Mode.{Mode}
+use Rattle.accumulator.specs.declared.mode.Target.{Target}
+use Rattle.accumulator.specs.declared.mode.Target.the-variants.{A, B}
+use Rattle.accumulator.proofs.Writing.{kept-inside, write-inside, saturation-only, saturation-stays}
+use Rattle.operations.specs.declared.operation.Operation.{Operation}
+use Rattle.state.specs.State.{withAccumulator}
+use Rattle.state.specs.State.{accumulatorAt, withWritten}
+use Rattle.state.specs.declared.settings.Settings.{Settings}
+use Rattle.state.specs.declared.state.Core.{Core}
+use Rattle.state.specs.declared.state.State.{State}
+use Rattle.effects.specs.Operations.{workOf}
+use Rattle.effects.specs.declared.effect.Exact.{Exact}
+use Rattle.effects.specs.declared.effect.Exact.the-variants.{Keep, Result as ExactResult}
+use Rattle.machine.specs.Write.{trapAfter, settleOf}
+use Rattle.machine.specs.Control.{controlOf, controlled, clears, stateControlled}
+use Rattle.machine.specs.Step.{Step, operationAt, stateAfter, completed, stepped}
+use Rattle.engine.specs.Run.{Stop, Turn, Result, complete, after, run}
+use Rattle.engine.specs.Run.Stop.{ended, left}
+use Rattle.engine.specs.Run.Turn.{over, last, next}
+use Rattle.engine.specs.Engine.{Engine, turnOf, engineTurn, engineDone, engineFrom}
+use Rattle.engine.specs.Ledger.{Entry, Ledger, exactTrap, keepExact, ledgerTurn, ledgerDone, ledgerFrom}
+use Rattle.engine.specs.Exact.{holdsClear}
+use Rattle.engine.proofs.Runs.{Keeps, run-keeps}
+
+-- ---- what agreement is
+
+-- the engine's state of a core, both flags clear
+abbrev pub cleared : Core → State
+cleared c = record { core = c; sa = false; sb = false }
+
+-- and the engine of a ledger
+abbrev pub clear : Ledger → Engine
+clear y = record { state = cleared (y .core); memory = y .memory }
+
+-- a saturation flag is set
+abbrev pub Flagged : State → Type 0
+Flagged s = (s .sa ≡ true) ⊎ (s .sb ≡ true)
+
+-- in the engine
+abbrev pub FlaggedIn : Engine → Type 0
+FlaggedIn x = Flagged (x .state)
+
+-- a step is made, and a flag is set after it
+abbrev Sets : Turn Engine → Type 0
+Sets (over e) = ⊥
+Sets (last e x) = FlaggedIn x
+Sets (next x) = FlaggedIn x
+
+-- the engine's turn v is the ledger's turn u with both flags clear; where u leaves the limits v sets a flag
+abbrev pub Follows : Turn Engine → Turn Ledger → Type 0
+Follows v (over (ended e)) = v ≡ over (ended e)
+Follows v (over left) = Sets v
+Follows v (last e y) = v ≡ last e (clear y)
+Follows v (next y) = v ≡ next (clear y)
+
+-- the same of their runs x and y, where y stops like this
+abbrev pub Ends : Result Engine → Result Ledger → Stop → Type 0
+Ends x y (ended e) = x ≡ record { machine = clear (y .machine); steps = y .steps; stop = ended e }
+Ends x y left = FlaggedIn (x .machine)
+
+-- as it does
+abbrev pub Agree : Result Engine → Result Ledger → Type 0
+Agree x y = Ends x y (y .stop)
+
+-- what holds of both pairs holds of the pair that a test chooses
+same-test : {X Y : Type 0} (P : X → Y → Type 0) (t : Bool) {x x′ : X} {y y′ : Y} → P x y → P x′ y′ → P (cond t x x′) (cond t y y′)
+same-test P true h h′ = h
+same-test P false h h′ = h′
+
+-- ---- the exact result
+
+module _ (m : Mode) where
+  -- inside the limits the engine's trap is the ledger's
+  trap-inside : (traps : ℕ) (t : Target) (r : ℤ) → hasLeft m t r ≡ false → trapAfter traps m t r ≡ exactTrap traps t r
+  unfolding trapAfter exactTrap
+  trap-inside traps t r e = rw (e, kept-inside m t r e)
+
+  -- and what it writes is what the ledger keeps
+  write-exact : (t : Target) (r : ℤ) (c : Core) → hasLeft m t r ≡ false
+      → withWritten (cleared c) t (writeOf (accumulatorAt (cleared c) t) m t r) ≡ cleared (withAccumulator c t r (overflows r))
+  write-exact A r c e = rw (write-inside (accumulatorAt (cleared c) A) m A r e)
+  write-exact B r c e = rw (write-inside (accumulatorAt (cleared c) B) m B r e)
+
+  -- outside them it sets a flag
+  write-flags : (t : Target) (r : ℤ) (c : Core) → hasLeft m t r ≡ true
+      → Flagged (withWritten (cleared c) t (writeOf (accumulatorAt (cleared c) t) m t r))
+  write-flags A r c e = inl (saturation-only (accumulatorAt (cleared c) A) m A r refl ∙ e)
+  write-flags B r c e = inr (saturation-only (accumulatorAt (cleared c) B) m B r refl ∙ e)
+
+  -- and a flag that was set stays
+  settle-flags : (traps : ℕ) (e : Exact) (s : State) → Flagged s → Flagged (settleOf traps m e s .state)
+  unfolding settleOf
+  settle-flags traps Keep s h = h
+  settle-flags traps (ExactResult A r) s h = ⊎-elim (λ f. inl (saturation-stays (accumulatorAt s A) m A r f)) (λ f. inr f) h
+  settle-flags traps (ExactResult B r) s h = ⊎-elim (λ f. inl f) (λ f. inr (saturation-stays (accumulatorAt s B) m B r f)) h
+
+-- ---- one step
+
+-- the engine's turn where the exact result e of operation o is written to state s
+abbrev settling : List Operation → Operation → ℕ → Mode → Exact → State → List ℕ → Turn Engine
+settling p o traps m e s memory =
+    let r = settleOf traps m e s in
+    complete (r .trap) (record { state = stateControlled p (controlOf o) (r .state); memory = memory })
+
+-- in a program that holds no clearing operation none clears, end early past its end included
+clears-none : (p : List Operation) (i : ℕ) → holdsClear p ≡ false → clears (controlOf (operationAt p i)) ≡ false
+unfolding holdsClear controlOf
+clears-none [] i h = refl
+clears-none (o ∷ p) zero h = neither (clears (controlOf o)) (holdsClear p) h .0
+clears-none (o ∷ p) (suc i) h = clears-none p i (neither (clears (controlOf o)) (holdsClear p) h .1)
+
+module _ (p : List Operation) (o : Operation) (stays : clears (controlOf o) ≡ false) where
+  -- control leaves a flag that is set
+  controlled-flags : (s : State) → Flagged s → Flagged (stateControlled p (controlOf o) s)
+  unfolding stateControlled
+  controlled-flags s h = rw stays h
+
+  -- and flags that are clear
+  controlled-clear : (c : Core) → stateControlled p (controlOf o) (cleared c) ≡ cleared (controlled p (controlOf o) c)
+  unfolding stateControlled
+  controlled-clear c = rw stays
+
+  module _ (traps : ℕ) (m : Mode) where
+    settling-follows : (e : Exact) (c : Core) (memory : List ℕ) (l : List Entry)
+        → Follows (settling p o traps m e (cleared c) memory) (keepExact p traps m o e c memory l)
+    unfolding settleOf keepExact
+    settling-follows Keep c memory l = rw (controlled-clear c)
+    settling-follows (ExactResult t r) c memory l =
+        by-test (Follows (settling p o traps m (ExactResult t r) (cleared c) memory)) (hasLeft m t r)
+        (λ e.
+        let set = controlled-flags _ (write-flags m t r c e) in
+        by-test Sets (eqb (trapAfter traps m t r) 0) (λ f. set) (λ f. set))
+        (λ e.
+        rw (trap-inside m traps t r e, write-exact m t r c e, controlled-clear (withAccumulator c t r (overflows r)))
+        (same-test Follows (eqb (exactTrap traps t r) 0) refl refl))
+
+    settling-flags : (e : Exact) (s : State) (memory : List ℕ) → Flagged s → Keeps FlaggedIn FlaggedIn (settling p o traps m e s memory)
+    settling-flags e s memory h =
+        let set = controlled-flags _ (settle-flags m traps e s h) in
+        by-test (Keeps FlaggedIn FlaggedIn) (eqb (settleOf traps m e s .trap) 0) (λ f. set) (λ f. set)
+
+-- ---- a run
+
+-- what follows a turn agrees, where a flag stays set and the runs from the next machine agree
+after-agrees : (k : ℕ) (y : Ledger) (f : Engine → Result Engine) (g : Ledger → Result Ledger) (v : Turn Engine) (u : Turn Ledger)
+    → Follows v u → ((x : Engine) → FlaggedIn x → FlaggedIn (f x .machine)) → ((y′ : Ledger) → Agree (f (clear y′)) (g y′))
+    → Agree (after (clear y) k f v) (after y k g u)
+after-agrees k y f g v (over (ended e)) h stuck on = rw h
+after-agrees k y f g (over e) (over left) h stuck on = absurd h
+after-agrees k y f g (last e x) (over left) h stuck on = h
+after-agrees k y f g (next x) (over left) h stuck on = stuck x h
+after-agrees k y f g v (last e y′) h stuck on = rw h
+after-agrees k y f g v (next y′) h stuck on = rw h (on y′)
+
+module _ (p : List Operation) (settings : Settings) (none : holdsClear p ≡ false) where
+  -- a step from clear flags
+  pub turn-follows : (k : ℕ) (y : Ledger) → Follows (engineTurn p settings (clear y)) (ledgerTurn p settings k y)
+  unfolding engineTurn stepped completed ledgerTurn
+  turn-follows k y =
+      let c = y .core in
+      let m = modeOf (c .mode) in
+      let o = operationAt p (c .pc) in
+      let work = workOf settings m o c (y .memory) in
+      same-test (λ (r : Step) (u : Turn Ledger). Follows (turnOf r) u) (eqb (work .effect .trap) 0)
+      (settling-follows p o (clears-none p (c .pc) none) (settings .traps) m (work .effect .exact) _ _ _) refl
+
+  -- a step from a flag that is set
+  turn-flags : (x : Engine) → FlaggedIn x → Keeps FlaggedIn FlaggedIn (engineTurn p settings x)
+  unfolding engineTurn stepped completed
+  turn-flags x h =
+      let c = x .state .core in
+      let m = modeOf (c .mode) in
+      let o = operationAt p (c .pc) in
+      let work = workOf settings m o c (x .memory) in
+      by-test (λ (r : Step). Keeps FlaggedIn FlaggedIn (turnOf r)) (eqb (work .effect .trap) 0)
+      (λ e. settling-flags p o (clears-none p (c .pc) none) (settings .traps) m (work .effect .exact) (stateAfter m work (x .state)) _ h) (λ e. tt)
+
+  -- a run from a flag that is set
+  run-flags : (n k : ℕ) (x : Engine) → FlaggedIn x → FlaggedIn (engineFrom p settings n k x .machine)
+  run-flags = run-keeps (engineDone p) (λ k. engineTurn p settings) (λ k. FlaggedIn) FlaggedIn (λ k x h. h) (λ k x e h. turn-flags x h)
+
+  -- a run from clear flags
+  pub run-agrees : (n k : ℕ) (y : Ledger) → Agree (engineFrom p settings n k (clear y)) (ledgerFrom p settings n k y)
+  unfolding run
+  run-agrees zero k y = refl
+  run-agrees (suc n) k y =
+      same-test Agree (ledgerDone p y) refl
+      (after-agrees k y (engineFrom p settings n (suc k)) (ledgerFrom p settings n (suc k))
+      (engineTurn p settings (clear y)) (ledgerTurn p settings k y) (turn-follows k y) (run-flags n (suc k)) (λ y′. run-agrees n (suc k) y′))

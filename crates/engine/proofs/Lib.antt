@@ -1,0 +1,9 @@
+pub mod RunExamples
+pub mod Table
+pub mod Runs
+pub mod Agree
+pub mod Places
+pub mod Stored
+pub mod Sums
+pub mod Along
+pub mod Calls

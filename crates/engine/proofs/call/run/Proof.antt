@@ -1,0 +1,34 @@
+-- `call::run` meets its contract. Assumes nothing.
+use lib.ListN.{length}
+use mathlib.Core.Path.{_≡_, sym, _∙_}
+use Rattle.machine.specs.Single.{callRefusal}
+use Rattle.machine.proofs.Calls.{call-file, call-state}
+use Rattle.engine.proofs.Calls.{call-refused, call-run}
+use borrow.Author.Needs.{needs}
+use Rattle.engine.proofs.call.run.Statement.{statement}
+use Rattle.engine.proofs.call.run.Tie as tie
+
+returns : tie.Need-returns
+returns c =
+    let entry = c .before .before .before .before in
+    call-refused (entry .args .file .now) (entry .args .settings) (entry .args .state) (entry .args .memory .now) (entry .args .budget) _
+    (c .before .refusal .ensures) (c .if1 .taken)
+
+run-accepted-requires : tie.Need-run-accepted-requires
+run-accepted-requires c κs =
+    let entry = c .before .before .before .before .before in
+    let none : callRefusal (entry .args .file .now) (entry .args .settings) (entry .args .state) (length (entry .args .memory .now)) ≡ 0 =
+    sym (c .before .before .refusal .ensures) ∙ c .before .if1 .left in
+    (call-file _ _ _ _ none, call-state _ _ _ _ none)
+
+returns-2 : tie.Need-returns-2
+returns-2 c =
+    let entry = c .before .before .before .before .before .before .before .before in
+    let none : callRefusal (entry .args .file .now) (entry .args .settings) (entry .args .state) (length (entry .args .memory .now)) ≡ 0 =
+    sym (c .before .before .before .before .before .refusal .ensures) ∙ c .before .before .before .before .if1 .left in
+    let long : length (entry .args .state .core .w) ≡ 14 = search (needs, entry .good .1 .1 .0) in
+    call-run (entry .args .file .now) (entry .args .settings) (entry .args .state) (entry .args .memory .now) (entry .args .budget) none long _ _
+    (c .before .before .run-accepted .ensures)
+
+pub run-spec : {M : Type 1} → statement M
+run-spec = tie.close (tie.spec (λ c κs. search needs) returns run-accepted-requires (λ c. search needs) returns-2)

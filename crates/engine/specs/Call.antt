@@ -1,0 +1,43 @@
+-- The call for a run: refused, or run; and exact sums.
+use Prim.Native.Nat.{ℕ, _≤_}
+use mathlib.Core.Bool.{false}
+use mathlib.Core.List.{List}
+use mathlib.Core.Path.{_≡_}
+use lib.ListN.{length}
+use Rattle.program.specs.Answer.{ifAccepted}
+use Rattle.program.specs.File.{programOf}
+use Rattle.state.specs.declared.settings.Settings.{Settings}
+use Rattle.state.specs.declared.state.State.{State}
+use Rattle.machine.specs.Single.{callRefusal}
+use Rattle.engine.specs.Run.{Result}
+use Rattle.engine.specs.Run.Stop.{ended}
+use Rattle.engine.specs.Engine.{Engine, engineRun}
+use Rattle.engine.specs.Ledger.{ledgerRun}
+use Rattle.engine.specs.Exact.{holdsClear, FlagsClear, ExactSums}
+use Rattle.engine.specs.declared.ending.Ending.the-variants.{Refused}
+use Rattle.engine.specs.declared.outcome.Outcome.{Outcome}
+
+-- an outcome and the memory that is left, as a run's result
+abbrev pub resultOf : Outcome → List ℕ → Result Engine
+resultOf r memory = record { machine = record { state = r .state; memory = memory }; steps = r .steps; stop = ended (r .ending) }
+
+-- every refusal returns the state as given and 0 steps, and writes to no lent slice
+abbrev pub refused : ℕ → State → List ℕ → Result Engine
+refused n s memory = record { machine = record { state = s; memory = memory }; steps = 0; stop = ended (Refused n) }
+
+-- refusals 1 to 7 in their order, else the run of the file's program
+unfoldable pub runOf : List ℕ → Settings → State → List ℕ → ℕ → Result Engine
+runOf file settings s memory budget =
+    let refusal = callRefusal file settings s (length memory) in
+    ifAccepted refusal (engineRun (programOf file) settings budget s memory) (refused refusal s memory)
+
+-- what the call's outcome r and the memory after it are promised to be
+pub record Runs (file : List ℕ) (settings : Settings) (s : State) (memory : List ℕ) (budget : ℕ) (r : Outcome) (after : List ℕ) : Type 0 where
+  -- the refusal, or the run by the definition of stepping and ending
+  pub runs : resultOf r after ≡ runOf file settings s memory budget
+  -- within its budget
+  pub within : r .steps ≤ budget
+  -- exact sums: an accepted call, no operation that clears a saturation flag, both flags clear
+  pub exact :
+      callRefusal file settings s (length memory) ≡ 0 → holdsClear (programOf file) ≡ false → FlagsClear s →
+      ExactSums (programOf file) settings s memory (resultOf r after) (ledgerRun (programOf file) settings budget (s .core) memory)

@@ -1,0 +1,30 @@
+// The call for a run, which asks nothing.
+use crate::ending::Ending;
+use crate::outcome::Outcome;
+use crate::run::run_accepted;
+use machine::single::refusal;
+use state::settings::Settings;
+use state::state::State;
+ghost use Rattle.engine.specs.Call.{Runs};
+
+// A run of a program file from a state, with a memory that is written in place, of at most `budget` steps. A refusal leaves state and memory as they
+// came.
+pub fn run(
+    file: &[u8],
+    settings: Settings,
+    state: State,
+    memory: &mut [u16],
+    budget: u32,
+) -> Outcome
+    ensures { λ r. ⌜ Runs (now (file .entry)) settings state (now (memory .entry)) budget r (now (memory .exit)) ⌝ }
+{
+    let refused = refusal(file, settings, state, memory.len());
+    if refused != 0 {
+        return Outcome {
+            ending: Ending::Refused(refused),
+            state,
+            steps: 0,
+        };
+    }
+    run_accepted(file, settings, state, memory, budget)
+}

@@ -1,0 +1,44 @@
+// How a run ends.
+ghost use mathlib.Core.Path.{_≡_};
+ghost use Rattle.engine.specs.Ending.{digitOf, nameOf, numberOf};
+
+// Done: pc is the count of operations. Spent: the budget's steps are made. Trap: its number, 1 to 7. Refused: its number, 1 to 7.
+pub enum Ending {
+    Done,
+    Spent,
+    Trap(u8),
+    Refused(u8),
+}
+
+// The digit of a number below 10.
+fn digit(n: u8) -> u8
+    ensures { λ r. ⌜ r ≡ digitOf n ⌝ }
+{
+    48 + n % 10
+}
+
+impl Ending {
+    // The number of a trap or a refusal, 0 for the others.
+    pub fn number(self) -> u8
+        ensures { λ r. ⌜ r ≡ numberOf self ⌝ }
+    {
+        match self {
+            Ending::Done => 0,
+            Ending::Spent => 0,
+            Ending::Trap(n) => n,
+            Ending::Refused(n) => n,
+        }
+    }
+
+    // The name, with its number, in ASCII; zeros fill the eight bytes.
+    pub fn name(self) -> [u8; 8]
+        ensures { λ r. ⌜ r ≡ nameOf self ⌝ }
+    {
+        match self {
+            Ending::Done => *b"done\0\0\0\0",
+            Ending::Spent => *b"spent\0\0\0",
+            Ending::Trap(n) => [116, 114, 97, 112, digit(n), 0, 0, 0],
+            Ending::Refused(n) => [114, 101, 102, 117, 115, 101, 100, digit(n)],
+        }
+    }
+}

@@ -1,0 +1,10 @@
+// What a run comes to.
+use crate::ending::Ending;
+use state::state::State;
+
+// How a run ended, the state at its end, and the steps made.
+pub struct Outcome {
+    pub ending: Ending,
+    pub state: State,
+    pub steps: u32,
+}

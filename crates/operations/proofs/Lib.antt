@@ -1,0 +1,3 @@
+pub mod DecodeExamples
+pub mod Same
+pub mod Operations

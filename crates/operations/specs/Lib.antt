@@ -1,0 +1,4 @@
+pub mod Bytes
+pub mod Encode
+pub mod Listed
+pub mod Decode

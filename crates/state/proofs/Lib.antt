@@ -1,0 +1,3 @@
+-- Worked examples first, then laws.
+pub mod AcceptExamples
+pub mod Around

@@ -1,0 +1,12 @@
+-- `tally` meets its contract: the run from the reset state without correction. Assumes nothing.
+use mathlib.Core.Path.{sym}
+use borrow.Author.Needs.{needs}
+use Rattle.tally.proofs.tally.Statement.{statement}
+use Rattle.tally.proofs.tally.Tie as tie
+
+returns : tie.Need-returns
+returns c =
+    rw (sym (c .before .before .before .before .before .plain .ensures), sym (c .before .before .before .before .reset .ensures)) (c .before .before .run .ensures)
+
+pub tally-spec : {M : Type 1} → statement M
+tally-spec = tie.close (tie.spec (λ c κs. search needs) (λ c κs. search needs) (λ c κs. search needs) (λ c. search needs) returns)

@@ -1,0 +1,26 @@
+//! runs stream: writes the stored stream of runs, loads and writes.
+//! runs parts: writes its parts, a line each with the name and number of cases.
+
+use std::process::ExitCode;
+
+use simulator::command::write_output;
+use simulator::generate::runs::{parts, stream};
+
+fn main() -> ExitCode {
+    write_output(output)
+}
+
+fn output(arguments: &[&str]) -> Result<Vec<u8>, String> {
+    match arguments {
+        ["stream"] => Ok(stream()),
+        ["parts"] => Ok(part_lines().into_bytes()),
+        _ => Err("usage: runs stream | parts".to_string()),
+    }
+}
+
+fn part_lines() -> String {
+    let lines = parts().into_iter();
+    lines
+        .map(|(name, cases)| format!("{name} {}\n", cases.len()))
+        .collect()
+}

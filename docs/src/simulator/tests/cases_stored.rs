@@ -1,0 +1,282 @@
+//! The stream of runs, loads and writes stored in crates/cases: what its parts
+//! hold, and the lines for it.
+
+mod common;
+use common::*;
+use std::collections::{BTreeMap, BTreeSet};
+
+use simulator::cases::{next_case, print_lines, Case, What};
+use simulator::encode::encode;
+use simulator::file::{check_file, BLOCK, MOST_BLOCKS};
+use simulator::generate::coverage::{coverage, walk};
+use simulator::generate::forms::forms;
+use simulator::generate::runs::{parts, stream};
+use simulator::state::loops_around;
+use simulator::{Ending, Outcome};
+
+// ---- the files
+
+#[test]
+fn the_stored_stream_is_what_the_bin_writes() {
+    let stored = stored_case_files("stdin");
+    assert!(stored == stream());
+    println!("{} bytes", stored.len());
+    assert!(stored.len() <= 6_000_000);
+}
+
+#[test]
+fn the_stored_lines_are_what_is_printed() {
+    let mut printed = Vec::new();
+    print_lines(stored_case_files("stdin").as_slice(), &mut printed).unwrap();
+    assert!(stored_case_files("stdout") == printed);
+}
+
+#[test]
+fn the_last_line_alone_is_short() {
+    let stored = String::from_utf8(stored_case_files("stdout")).unwrap();
+    let lines: Vec<&str> = stored.lines().collect();
+    let (last, others) = lines.split_last().expect("lines");
+    assert_eq!(*last, "short");
+    assert!(!others.contains(&"short") && !others.contains(&"toolarge"));
+    assert_eq!(others.len(), cases().len());
+    assert!(others.len() >= 2_400);
+}
+
+#[test]
+fn the_parts_have_these_lengths() {
+    let lengths = lengths(parts());
+    let said = [
+        ("budgets", 300),
+        ("kinds", 293),
+        ("starts", 217),
+        ("early", 119),
+        ("nests", 102),
+        ("sums", 174),
+        ("filters", 74),
+        ("long", 55),
+        ("sizes", 127),
+        ("carried", 769),
+        ("refused", 399),
+        ("copies", 528),
+        ("random", 2_000),
+    ];
+    assert_eq!(lengths, said);
+}
+
+// ---- what the stream holds
+
+/// The whole cases of the stored stream.
+fn cases() -> Vec<Case> {
+    let stored = stored_case_files("stdin");
+    let mut rest = stored.as_slice();
+    let mut cases = Vec::new();
+    while let Ok(Ok(case)) = next_case(&mut rest) {
+        cases.push(case);
+    }
+    cases
+}
+
+fn part(wanted: &str) -> Vec<Case> {
+    let mut parts = parts().into_iter();
+    let found = parts.find(|(name, _)| *name == wanted);
+    found.expect("a part of that name").1
+}
+
+/// The runs among these cases that are not refused, with their outcomes.
+fn accepted(cases: Vec<Case>) -> Vec<(Case, Outcome)> {
+    let runs = cases.into_iter().filter(|case| case.what == What::Run);
+    let outcome = |case: Case| {
+        let (outcome, _) = case.run(case.budget);
+        (case, outcome)
+    };
+    runs.map(outcome)
+        .filter(|(_, outcome)| !matches!(outcome.ending, Ending::Refused(_)))
+        .collect()
+}
+
+/// Every ending of a run, every answer to a load and a write, and how often each
+/// must come up.
+fn answers() -> BTreeMap<String, usize> {
+    let mut answers = BTreeMap::new();
+    answers.insert("run done".to_string(), 1_000);
+    answers.insert("run spent".to_string(), 400);
+    answers.extend((1..=7).map(|number| (format!("run trap{number}"), 20)));
+    answers.extend((1..=7).map(|number| (format!("run refused{number}"), 20)));
+    answers.extend([1, 2, 3, 4, 5, 8].map(|number| (format!("load refused{number}"), 10)));
+    answers.extend([1, 4, 5, 8].map(|number| (format!("write refused{number}"), 5)));
+    answers.insert("load loaded".to_string(), 50);
+    answers.insert("write written".to_string(), 50);
+    answers
+}
+
+#[test]
+fn every_answer_and_every_kind_comes_up_often() {
+    let coverage = coverage(&stored_case_files("stdin"));
+    println!("{coverage:#?}");
+    let answers = answers();
+    assert!(coverage.endings.keys().eq(answers.keys()));
+    for (name, least) in &answers {
+        assert!(coverage.endings[name] >= *least, "{name}");
+    }
+    assert!(coverage.kinds[1..].iter().all(|&executed| executed >= 500));
+    assert!(coverage.mid_loop_starts >= 300);
+    assert!(coverage.mid_repeat_starts >= 100);
+    assert!(coverage.corrections.iter().all(|&steps| steps >= 10_000));
+    assert!(coverage.indexed_reads.iter().all(|&reads| reads >= 1_000));
+    assert!(coverage.reversed_steps >= 3_000);
+    assert!(coverage.depths.iter().all(|&steps| steps >= 10_000));
+    assert!((5_000_000..20_000_000).contains(&coverage.steps));
+}
+
+/// The operations that the runs of a part execute.
+fn executed(part: Vec<Case>) -> BTreeSet<Op> {
+    let mut executed = BTreeSet::new();
+    for case in part {
+        walk(&case, |operation, _| {
+            executed.insert(encode(operation));
+        });
+    }
+    executed
+}
+
+#[test]
+fn kinds_1_to_18_and_24_are_executed_in_every_form() {
+    let executed = executed(part("kinds"));
+    for kind in (1..=18).chain([24]) {
+        let missing = forms(kind)
+            .into_iter()
+            .filter(|form| !executed.contains(form));
+        assert_eq!(missing.count(), 0, "kind {kind}");
+    }
+}
+
+#[test]
+fn repeat_and_do_are_executed_by_every_register() {
+    let executed = executed(part("nests"));
+    for register in 0..14 {
+        for kind in [20, 22] {
+            let found = executed.iter().any(|op| op[..2] == [kind, register]);
+            assert!(found, "kind {kind}, register {register}");
+        }
+    }
+}
+
+#[test]
+fn every_mode_word_and_trap_word_is_set_at_a_start() {
+    let runs = accepted(cases());
+    let modes: BTreeSet<u16> = runs.iter().map(|(case, _)| case.state.mode.0).collect();
+    assert!(modes.len() >= 100, "{}", modes.len());
+    let traps: BTreeSet<u16> = runs
+        .iter()
+        .map(|(case, _)| case.settings.trap_word)
+        .collect();
+    assert_eq!(traps, (0..8).map(|bits| 0x0100 * bits).collect());
+}
+
+#[test]
+fn starts_in_loops_and_repeats_of_all_sizes() {
+    let runs = accepted(cases());
+    let often = |what: &str, least: usize, fits: &dyn Fn(&Case) -> bool| {
+        let count = runs.iter().filter(|(case, _)| fits(case)).count();
+        assert!(count >= least, "{what}: {count}");
+    };
+    for active in 1..=4 {
+        often("loops", 25, &|case| case.state.flow.active == active);
+    }
+    for passes in [1, 2, 32_768] {
+        let has = |case: &Case| {
+            case.state
+                .flow
+                .loops
+                .iter()
+                .any(|slot| slot.passes == passes)
+        };
+        often("passes", 40, &has);
+    }
+    for left in [1, 3, 65_536] {
+        often("repeat left", 10, &|case| case.state.flow.repeat == left);
+    }
+    often("last places", 60, &|case| starts_in_a_last_place(case));
+    for flags in 0..16 {
+        often("flags", 5, &|case| flag_bits(case) == flags);
+    }
+}
+
+fn starts_in_a_last_place(case: &Case) -> bool {
+    let (_, operations) = check_file(&case.file).expect("an accepted file");
+    let pc = case.state.flow.pc;
+    let around = loops_around(pc, &operations);
+    let innermost = around.last().map(|&number| operations[usize::from(number)]);
+    innermost.is_some_and(|operation| operation.last_of_do() == Some(pc))
+}
+
+fn flag_bits(case: &Case) -> u8 {
+    let ([oa, ob], [sa, sb]) = (case.state.overflow, case.state.saturated);
+    u8::from(oa) | u8::from(ob) << 1 | u8::from(sa) << 2 | u8::from(sb) << 3
+}
+
+#[test]
+fn endings_at_the_edge_of_the_budget() {
+    let runs = accepted(cases());
+    let count = |fits: &dyn Fn(&Case, &Outcome) -> bool| {
+        runs.iter()
+            .filter(|(case, outcome)| fits(case, outcome))
+            .count()
+    };
+    // Done with nothing to do, done as the budget is used up.
+    assert!(count(&|case, run| run.ending == Ending::Done && case.budget == 0) >= 3);
+    let used_up = |case: &Case, run: &Outcome| {
+        run.ending == Ending::Done && run.steps > 0 && run.steps == case.budget
+    };
+    assert!(count(&used_up) >= 10);
+    // Spent at once, after one step, in a repeat, in four loops.
+    let spent = |run: &Outcome| run.ending == Ending::Spent;
+    for budget in [0, 1] {
+        assert!(count(&|case, run| spent(run) && case.budget == budget) >= 15);
+    }
+    assert!(count(&|_, run| spent(run) && run.state.flow.repeat > 0) >= 50);
+    assert!(count(&|_, run| spent(run) && run.state.flow.active == 4) >= 20);
+    // Traps 5 to 7 with the last step of the budget, with the last operation.
+    for number in 5..=7 {
+        let trapped = |run: &Outcome| run.ending == trap(number);
+        assert!(count(&|case, run| trapped(run) && run.steps == case.budget) >= 5);
+        assert!(count(&|case, run| trapped(run) && is_at_the_end(case, run)) >= 5);
+    }
+    // The largest budget.
+    let largest = |case: &Case| case.budget == u32::MAX;
+    assert!(count(&|case, run| largest(case) && run.ending == Ending::Done) >= 30);
+    assert!(count(&|case, run| largest(case) && run.ending != Ending::Done) >= 5);
+}
+
+fn is_at_the_end(case: &Case, outcome: &Outcome) -> bool {
+    let (_, operations) = check_file(&case.file).expect("an accepted file");
+    usize::from(outcome.state.flow.pc) == operations.len()
+}
+
+#[test]
+fn dozens_of_runs_are_long_and_some_a_million_steps() {
+    let steps = accepted(cases()).into_iter().map(|(_, run)| run.steps);
+    let steps: Vec<u32> = steps.collect();
+    let between = |low, high| steps.iter().filter(|&&n| (low..high).contains(&n)).count();
+    assert!(between(10_000, 200_000) >= 50);
+    assert!(between(1_000_000, u32::MAX) >= 3);
+}
+
+#[test]
+fn programs_and_memories_are_of_all_sizes() {
+    let cases = cases();
+    let runs: Vec<&Case> = cases.iter().filter(|case| case.what == What::Run).collect();
+    let blocks: BTreeSet<usize> = runs.iter().map(|case| case.file.len() / BLOCK).collect();
+    assert!(blocks.is_superset(&BTreeSet::from([1, 2, 3, 4, 5, 16, MOST_BLOCKS])));
+    let words: BTreeSet<usize> = runs.iter().map(|case| case.memory.len()).collect();
+    assert!(words.is_superset(&BTreeSet::from([2, 3, 4, 16, 1_000, 2_048, 30_720])));
+}
+
+#[test]
+fn the_filters_run_to_their_end() {
+    let runs = accepted(part("filters"));
+    let done = runs.iter().filter(|(_, run)| run.ending == Ending::Done);
+    assert!(done.count() >= 70);
+    let steps: u32 = runs.iter().map(|(_, run)| run.steps).sum();
+    assert!(steps >= 50_000);
+}

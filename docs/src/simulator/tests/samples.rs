@@ -1,0 +1,370 @@
+//! The stored samples: text, program file, case and line of each agree, and the
+//! filters give what plain whole numbers give.
+
+mod common;
+mod mnemonic;
+use common::{end_alike, engine_word, ledger_of, stored_assembly, stored_sample};
+use mnemonic::mnemonic;
+
+use simulator::assemble::assemble_text;
+use simulator::cases::{bytes_of, line, Case};
+use simulator::file::check_file;
+use simulator::ledger::LedgerEnding;
+use simulator::samples::{case_of, NAMES};
+use simulator::tally::{tally_case, tally_line};
+use simulator::{Ending, Outcome};
+
+fn stored(name: &str, ending: &str) -> Vec<u8> {
+    stored_sample(&format!("{name}.{ending}"))
+}
+
+fn text(name: &str) -> String {
+    String::from_utf8(stored(name, "txt")).expect("the text is plain")
+}
+
+/// tally's run of a sample as a case, and the sample's own.
+fn plain_case(name: &str) -> Case {
+    tally_case(&stored(name, "bin"))
+}
+
+fn own_case(name: &str) -> Case {
+    case_of(name, &stored(name, "bin")).expect("a sample's name")
+}
+
+fn run_whole(case: &Case) -> (Outcome, Vec<u16>) {
+    let (outcome, memory) = case.run(case.budget);
+    assert_eq!(outcome.ending, Ending::Done);
+    assert_eq!(outcome.state.saturated, [false; 2]);
+    (outcome, memory)
+}
+
+/// So many words from a byte address on, read as signed.
+fn words(memory: &[u16], address: usize, count: usize) -> Vec<i64> {
+    let first = (address - 0x1000) / 2;
+    let held = &memory[first..first + count];
+    held.iter().map(|&word| i64::from(word as i16)).collect()
+}
+
+/// The nearest multiple of 65,536, the even one of two, as a word.
+fn rounded(value: i64) -> i64 {
+    let (below, rest) = (value.div_euclid(65_536), value.rem_euclid(65_536));
+    let nearest = match rest.cmp(&32_768) {
+        std::cmp::Ordering::Less => below,
+        std::cmp::Ordering::Equal => below + below.rem_euclid(2),
+        std::cmp::Ordering::Greater => below + 1,
+    };
+    nearest.clamp(-32_768, 32_767)
+}
+
+/// 2 sum over k of taps[k] x[n - k], x being 0 before its start.
+fn convolved(taps: &[i64], x: &[i64], n: usize) -> i64 {
+    let products = taps.iter().zip(x[..=n].iter().rev());
+    products.map(|(tap, sample)| 2 * tap * sample).sum()
+}
+
+fn squares(differences: impl Iterator<Item = i64>) -> i64 {
+    differences
+        .map(|difference| 2 * difference * difference)
+        .sum()
+}
+
+// ---- the files
+
+#[test]
+fn the_program_files_are_the_texts_assembled() {
+    for name in NAMES {
+        assert_eq!(assemble_text(&stored(name, "txt")), Ok(stored(name, "bin")));
+    }
+}
+
+#[test]
+fn the_proved_assembler_is_held_to_the_fir_filter() {
+    assert!(stored_assembly("stdin") == stored("fir", "txt"));
+    assert!(stored_assembly("stdout") == stored("fir", "bin"));
+}
+
+#[test]
+fn the_cases_hold_the_program_files() {
+    for name in NAMES {
+        let (file, case) = (stored(name, "bin"), own_case(name));
+        assert_eq!(case.file, file);
+        let bytes = stored(name, "case");
+        assert!(bytes == bytes_of(&case), "{name}");
+        assert!(bytes[112..].starts_with(&file), "{name}");
+    }
+}
+
+#[test]
+fn the_lines_are_those_of_the_cases() {
+    for name in NAMES {
+        let line = line(&own_case(name)) + "\n";
+        assert_eq!(line.into_bytes(), stored(name, "line"));
+    }
+}
+
+/// A text has one line that begins `# tally: `; samples/README.md repeats it.
+#[test]
+fn tally_prints_what_the_texts_claim() {
+    let readme = String::from_utf8(stored_sample("README.md")).unwrap();
+    for name in NAMES {
+        let text = text(name);
+        let mut claims = text.lines().filter_map(|l| l.strip_prefix("# tally: "));
+        let claim = claims.next().expect("a claim");
+        assert_eq!(claims.next(), None);
+        assert_eq!(tally_line(&stored(name, "bin")), format!("{claim}\n"));
+        assert!(readme.contains(&format!("`{claim}`")), "{name}");
+    }
+}
+
+/// Each operation's comment is its mnemonic, its number and what it is for.
+#[test]
+fn every_operation_has_its_comment() {
+    for name in NAMES {
+        let text = text(name);
+        let (_, operations) = check_file(&stored(name, "bin")).unwrap();
+        let held = |line: &&str| !line.is_empty() && !line.starts_with('#');
+        let lines: Vec<&str> = text.lines().filter(held).collect();
+        assert_eq!(lines.len(), operations.len());
+        for (number, (line, operation)) in lines.iter().zip(&operations).enumerate() {
+            let (_, comment) = line.split_once("  # ").expect("a comment");
+            let (says, purpose) = comment.split_once(" ; ").expect("a purpose");
+            assert_eq!(says.trim_end(), mnemonic(operation), "{name} {number}");
+            let purpose = purpose.strip_prefix(&format!("{number}: "));
+            assert!(purpose.is_some_and(|why| !why.is_empty()), "{line}");
+        }
+    }
+}
+
+// ---- the FIR filter
+
+const FIR_TAPS: [i64; 9] = [166, 962, 3_629, 7_187, 8_880, 7_187, 3_629, 962, 166];
+
+fn fir_input() -> Vec<i64> {
+    let impulse = vec![16_384, 0, 0, 0, 0, 0, 0, 0, 0];
+    [impulse, [12_288, 4_096].repeat(9)].concat()
+}
+
+fn fir_sums() -> Vec<i64> {
+    let x = fir_input();
+    (0..27).map(|n| convolved(&FIR_TAPS, &x, n)).collect()
+}
+
+fn fir_outputs() -> Vec<i64> {
+    fir_sums().into_iter().map(rounded).collect()
+}
+
+fn check_fir(case: &Case) {
+    let (outcome, memory) = run_whole(case);
+    let (x, outputs) = (fir_input(), fir_outputs());
+    assert_eq!(words(&memory, 0x1200, 27), x);
+    assert_eq!(words(&memory, 0x1800, 9), FIR_TAPS);
+    assert_eq!(words(&memory, 0x1900, 27), outputs);
+    assert_eq!(words(&memory, 0x1100, 9), x[18..]);
+    let total: i64 = outputs.iter().sum();
+    assert_eq!(outcome.state.accumulators, [fir_sums()[26], 2_048 * total]);
+}
+
+#[test]
+fn the_fir_filter_is_a_convolution() {
+    check_fir(&plain_case("fir"));
+    check_fir(&own_case("fir"));
+    check_fir(&own_case("fir_circular"));
+}
+
+#[test]
+fn the_last_sum_is_the_one_worked_out_by_hand() {
+    assert_eq!(FIR_TAPS.iter().sum::<i64>(), 32_768);
+    let (even, odd) = (16_470, 16_298);
+    assert_eq!(fir_sums()[26], 2 * (even * 4_096 + odd * 12_288));
+    assert_eq!(fir_sums()[26], 535_461_888);
+    assert_eq!(fir_outputs()[26], 8_170);
+}
+
+#[test]
+fn the_fir_text_lists_the_outputs() {
+    let text = text("fir");
+    for row in fir_outputs().chunks(9) {
+        let row: Vec<String> = row.iter().map(|y| format!("{y:>4}")).collect();
+        assert!(text.contains(&row.join(" ")), "{row:?}");
+    }
+}
+
+/// Without its settings W8 falls by 16 bytes a sample and leaves memory.
+#[test]
+fn the_circular_program_needs_its_settings() {
+    let (outcome, _) = plain_case("fir_circular").run(100_000);
+    assert_eq!(outcome.ending, common::trap(2));
+    assert_eq!(outcome.state.w[8], 0x0FFE);
+}
+
+// ---- the adaptive filter
+
+const UNKNOWN: [i64; 4] = [9_830, 6_554, -3_277, 1_638];
+const SAMPLES: usize = 42;
+
+/// What the adaptive filter leaves, by plain whole numbers.
+struct Adapted {
+    x: Vec<i64>,
+    wanted: Vec<i64>,
+    outputs: Vec<i64>,
+    error: i64,
+    taps: [i64; 4],
+}
+
+fn lms_input() -> Vec<i64> {
+    let signs = [1, 1, 1, -1, 1, -1, -1];
+    (0..SAMPLES).map(|n| 16_384 * signs[n % 7]).collect()
+}
+
+fn adapted() -> Adapted {
+    let x = lms_input();
+    let wanted: Vec<i64> = (0..SAMPLES)
+        .map(|n| rounded(convolved(&UNKNOWN, &x, n)))
+        .collect();
+    let (mut taps, mut error, mut outputs) = ([0; 4], 0, Vec::new());
+    for n in 0..SAMPLES {
+        let sum = convolved(&taps, &x, n);
+        outputs.push(rounded(sum));
+        error = 65_536 * wanted[n] - sum;
+        let step = rounded(error.div_euclid(2));
+        for (tap, sample) in taps.iter_mut().zip(x[..=n].iter().rev()) {
+            *tap = rounded(65_536 * *tap + 2 * step * sample);
+        }
+    }
+    Adapted {
+        x,
+        wanted,
+        outputs,
+        error: rounded(error),
+        taps,
+    }
+}
+
+fn check_lms(case: &Case) {
+    let (outcome, memory) = run_whole(case);
+    let expected = adapted();
+    let last_first = |taps: [i64; 4]| [taps[3], taps[2], taps[1], taps[0]];
+    assert_eq!(words(&memory, 0x1100, 3), [0; 3]);
+    assert_eq!(words(&memory, 0x1106, SAMPLES), expected.x);
+    assert_eq!(words(&memory, 0x1200, SAMPLES), expected.wanted);
+    assert_eq!(words(&memory, 0x1900, SAMPLES), expected.outputs);
+    assert_eq!(words(&memory, 0x1800, 1), [expected.error]);
+    assert_eq!(words(&memory, 0x1802, 4), last_first(expected.taps));
+    assert_eq!(words(&memory, 0x1300, 4), last_first(UNKNOWN));
+    assert_eq!(words(&memory, 0x1840, 4), last_first(UNKNOWN));
+    let distance = squares(UNKNOWN.iter().zip(expected.taps).map(|(h, w)| h - w));
+    let residual = period_error(&expected, SAMPLES - 7);
+    assert_eq!(outcome.state.accumulators, [distance, residual]);
+}
+
+/// 2 sum of (d - y) squared over a period.
+fn period_error(adapted: &Adapted, first: usize) -> i64 {
+    let period = first..first + 7;
+    squares(period.map(|n| adapted.wanted[n] - adapted.outputs[n]))
+}
+
+#[test]
+fn the_adaptive_filter_is_that_of_whole_numbers() {
+    check_lms(&plain_case("lms"));
+    check_lms(&own_case("lms"));
+}
+
+#[test]
+fn the_figures_of_the_lms_text() {
+    let adapted = adapted();
+    assert_eq!(adapted.taps, [9_784, 6_526, -3_318, 1_612]);
+    assert_eq!(squares(UNKNOWN.into_iter()), 306_011_178);
+    assert_eq!(period_error(&adapted, 0), 317_731_054);
+    let last: Vec<i64> = (35..42)
+        .map(|n| adapted.wanted[n] - adapted.outputs[n])
+        .collect();
+    assert_eq!(last, [5, 13, 91, 47, 87, -4, -58]);
+}
+
+/// Five write-backs a sample go round the error and the taps.
+#[test]
+fn the_write_back_goes_round_with_its_setting() {
+    let end = |case: Case| run_whole(&case).0.state.w[13];
+    assert_eq!(end(plain_case("lms")), 0x180A);
+    assert_eq!(end(own_case("lms")), 0x1800);
+}
+
+// ---- the reorder
+
+fn ramp() -> Vec<i64> {
+    (0..16).map(|i| 3 * i - 7).collect()
+}
+
+/// The words with word i at place place(i).
+fn placed(words: &[i64], place: impl Fn(usize) -> usize) -> Vec<i64> {
+    let mut out = vec![0; words.len()];
+    for (i, &word) in words.iter().enumerate() {
+        out[place(i)] = word;
+    }
+    out
+}
+
+fn reversed(i: usize) -> usize {
+    usize::from((i as u8).reverse_bits() >> 4)
+}
+
+fn check_reorder(case: &Case, place: impl Fn(usize) -> usize) {
+    let (outcome, memory) = run_whole(case);
+    let v = ramp();
+    let truncated: Vec<i64> = v.iter().map(|v| v.div_euclid(2)).collect();
+    let nearest: Vec<i64> = v.iter().map(|v| rounded(v * 32_768)).collect();
+    let reordered = placed(&v, &place);
+    let (truncated, nearest) = (placed(&truncated, &place), placed(&nearest, &place));
+    assert_eq!(words(&memory, 0x1800, 16), v);
+    assert_eq!(words(&memory, 0x1200, 16), reordered);
+    assert_eq!(words(&memory, 0x1240, 16), truncated);
+    assert_eq!(words(&memory, 0x1280, 16), nearest);
+    let a = (0..16).map(|i| 2 * reordered[i] * v[i]).sum();
+    let b = (0..16)
+        .map(|i| 2 * (nearest[i] - truncated[i]) * v[i])
+        .sum();
+    assert_eq!(outcome.state.accumulators, [a, b]);
+}
+
+#[test]
+fn the_reorder_is_the_bit_reversed_permutation() {
+    check_reorder(&own_case("reorder"), reversed);
+    check_reorder(&plain_case("reorder"), |i| i);
+}
+
+#[test]
+fn the_figures_of_the_reorder_text() {
+    let products = (0..16).map(|i| i * reversed(i));
+    assert_eq!(products.sum::<usize>(), 1_028);
+    let (outcome, _) = run_whole(&own_case("reorder"));
+    assert_eq!(outcome.state.accumulators, [9_992, 76]);
+    assert_eq!(outcome.state.w[2], 0x1280);
+}
+
+// ---- the ledger
+
+/// Demand 3: no S flag, so the ledger is not marked "left", both end alike, and
+/// each rounded store without limiting is within half a unit.
+fn check_ledger(case: &Case) {
+    let (outcome, memory) = case.run(case.budget);
+    let ledger = ledger_of(case);
+    assert_eq!(outcome.state.saturated, [false; 2]);
+    assert_ne!(ledger.ending, LedgerEnding::Left);
+    end_alike(&outcome, &memory, &ledger);
+    assert!(!ledger.stores.is_empty());
+    for store in &ledger.stores {
+        let word = engine_word(case, store);
+        assert_eq!(word, store.word);
+        assert!(!store.limiting_needed);
+        let distance = (65_536 * word - store.value).abs();
+        assert!(!store.rounded || distance <= 32_768);
+    }
+}
+
+#[test]
+fn the_ledger_agrees_with_the_engine() {
+    for name in NAMES {
+        check_ledger(&plain_case(name));
+        check_ledger(&own_case(name));
+    }
+}
