@@ -34,8 +34,8 @@ use Rattle.operations.specs.declared.operation.Operation.the-variants.{ClearSat
 use Rattle.state.specs.Settings.{noCircular, trapsOverflow, trapsLeft}
 use Rattle.state.specs.State.{noLoops}
 use Rattle.state.specs.declared.settings.Settings.{Settings}
-use Rattle.state.specs.declared.state.Loops.{Loops}
 use Rattle.state.specs.declared.state.State.{State}
+use Rattle.state.proofs.Made.{made, _but_, reg, inA, inB, at, looping, due, by, flags, one, two}
 use Rattle.effects.specs.Pointer.{movedOf, stepOf, raisedOf, changeOf}
 use Rattle.effects.specs.Access.{operandAccess, prefetchAccess, backAccess, wordAt, changed}
 use Rattle.effects.specs.Mac.{exactBy, macExact, macAccesses, differenceOf, arrived, macRegisters, macWork}
@@ -94,58 +94,9 @@ plain = trapping 0
 abbrev memory : List ℕ
 memory = 100 ∷ 101 ∷ 102 ∷ 103 ∷ 104 ∷ 105 ∷ 106 ∷ 107 ∷ []
 
--- a state of all its parts: registers, A, B, pc, loops, repeat left, mode word, OA, OB, SA, SB
-abbrev made : List ℕ → ℤ → ℤ → ℕ → Loops → ℕ → ℕ → Bool → Bool → Bool → Bool → State
-made w a b pc loops due mode oa ob sa sb =
-    record { core = record { w = w; a = a; b = b; pc = pc; loops = loops; repeat = due; mode = mode; oa = oa; ob = ob }; sa = sa; sb = sb }
-
 -- as after reset: all is zero except that the mode word is 0020 hex, SATDW alone
 abbrev start : State
 start = made (replicate 14 0) (pos 0) (pos 0) 0 noLoops 0 0x20 false false false false
-
-infixl 12 _but_
--- a state with one part replaced
-abbrev _but_ : State → (State → State) → State
-s but f = f s
-
--- W r
-abbrev reg : ℕ → ℕ → State → State
-reg r x s = let c = s .core in made (set (c .w) r x) (c .a) (c .b) (c .pc) (c .loops) (c .repeat) (c .mode) (c .oa) (c .ob) (s .sa) (s .sb)
-
--- A
-abbrev inA : ℤ → State → State
-inA v s = let c = s .core in made (c .w) v (c .b) (c .pc) (c .loops) (c .repeat) (c .mode) (c .oa) (c .ob) (s .sa) (s .sb)
-
--- B
-abbrev inB : ℤ → State → State
-inB v s = let c = s .core in made (c .w) (c .a) v (c .pc) (c .loops) (c .repeat) (c .mode) (c .oa) (c .ob) (s .sa) (s .sb)
-
--- pc
-abbrev at : ℕ → State → State
-at pc s = let c = s .core in made (c .w) (c .a) (c .b) pc (c .loops) (c .repeat) (c .mode) (c .oa) (c .ob) (s .sa) (s .sb)
-
--- the loops
-abbrev looping : Loops → State → State
-looping l s = let c = s .core in made (c .w) (c .a) (c .b) (c .pc) l (c .repeat) (c .mode) (c .oa) (c .ob) (s .sa) (s .sb)
-
--- repeat left
-abbrev due : ℕ → State → State
-due n s = let c = s .core in made (c .w) (c .a) (c .b) (c .pc) (c .loops) n (c .mode) (c .oa) (c .ob) (s .sa) (s .sb)
-
--- the mode word
-abbrev by : ℕ → State → State
-by mode s = let c = s .core in made (c .w) (c .a) (c .b) (c .pc) (c .loops) (c .repeat) mode (c .oa) (c .ob) (s .sa) (s .sb)
-
--- OA, OB, SA, SB; the ledger has no S flags, and they are written false for it
-abbrev flags : Bool → Bool → Bool → Bool → State → State
-flags oa ob sa sb s = let c = s .core in made (c .w) (c .a) (c .b) (c .pc) (c .loops) (c .repeat) (c .mode) oa ob sa sb
-
--- one loop: DO's number and passes left; two, the outer first
-abbrev one : ℕ → ℕ → State → State
-one d n s = looping (record { starts = d ∷ 0 ∷ 0 ∷ 0 ∷ []; passes = n ∷ 0 ∷ 0 ∷ 0 ∷ []; depth = 1 }) s
-
-abbrev two : ℕ → ℕ → ℕ → ℕ → State → State
-two d n d′ n′ s = looping (record { starts = d ∷ d′ ∷ 0 ∷ 0 ∷ []; passes = n ∷ n′ ∷ 0 ∷ 0 ∷ []; depth = 2 }) s
 
 -- a negative number
 abbrev minus : ℕ → ℤ

@@ -18,6 +18,7 @@ use Rattle.operations.specs.declared.operation.Operation.the-variants.{MacClass
 use Rattle.state.specs.Settings.{noCircular, plainSettings}
 use Rattle.state.specs.State.{noLoops, resetState}
 use Rattle.state.specs.declared.settings.Settings.{Settings}
+use Rattle.state.specs.declared.state.Loops.{Loops}
 use Rattle.state.specs.declared.state.State.{State}
 use Rattle.engine.specs.Run.{Stop, Result}
 use Rattle.engine.specs.Run.Stop.{ended}
@@ -79,38 +80,27 @@ lookSteps x = pos (x .steps) ∷ x .machine .state .core .a ∷ []
 
 -- ---- how to start
 
--- these registers, A, B and mode word, else as after reset
-abbrev pub startOf : List ℕ → ℤ → ℤ → ℕ → State
-startOf w a b mode =
+-- at pc in these loops with these registers, A, B and mode word, else as after reset
+abbrev pub startAt : ℕ → Loops → List ℕ → ℤ → ℤ → ℕ → State
+startAt pc loops w a b mode =
     record {
-      core = record { w = w; a = a; b = b; pc = 0; loops = noLoops; repeat = 0; mode = mode; oa = false; ob = false };
+      core = record { w = w; a = a; b = b; pc = pc; loops = loops; repeat = 0; mode = mode; oa = false; ob = false };
       sa = false;
       sb = false;
     }
+
+-- at the program's start
+abbrev pub startOf : List ℕ → ℤ → ℤ → ℕ → State
+startOf = startAt 0 noLoops
 
 -- all registers zero but one
 abbrev pub only : ℕ → ℕ → List ℕ
 only r x = set (replicate 14 0) r x
 
--- pc 2 in a loop of operation 0 with so many passes left
+-- at pc 2 in a loop of operation 0 with so many passes left
 abbrev pub inLoop : ℕ → State
 inLoop n =
-    record {
-      core =
-          record {
-            w = replicate 14 0;
-            a = pos 0;
-            b = pos 0;
-            pc = 2;
-            loops = record { starts = replicate 4 0; passes = set (replicate 4 0) 0 n; depth = 1 };
-            repeat = 0;
-            mode = 0x20;
-            oa = false;
-            ob = false;
-          };
-      sa = false;
-      sb = false;
-    }
+    startAt 2 (record { starts = replicate 4 0; passes = set (replicate 4 0) 0 n; depth = 1 }) (replicate 14 0) (pos 0) (pos 0) 0x20
 
 -- kinds 1 to 7 on A without write-back: m, n, the reads and their destinations
 abbrev pub mac : Action → ℕ → ℕ → Prefetch → ℕ → Prefetch → ℕ → Operation

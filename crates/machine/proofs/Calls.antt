@@ -1,9 +1,8 @@
 -- What a call for one step leaves, refused, done or executed. Assumes nothing.
-use Prim.Native.Nat.{ℕ, zero, suc, _<_, _≤_}
-use mathlib.Core.Bool.{true, false, cond, _&&_}
-use mathlib.Core.Path.{_≡_, refl, sym, ap, _∙_}
+use Prim.Native.Nat.{ℕ, zero, suc}
+use mathlib.Core.Bool.{false}
+use mathlib.Core.Path.{_≡_, refl, sym, _∙_}
 use mathlib.Core.List.{List}
-use native.Mathlib.Omega.{arith}
 use borrow.Author.Tests.{eq-eqb, ne-eqb}
 use lib.ListN.{length}
 use Rattle.program.specs.Answer.{_then_, ifAccepted}
@@ -14,7 +13,7 @@ use Rattle.state.specs.Settings.{settingsRefusal}
 use Rattle.state.specs.Accept.{stateRefusal}
 use Rattle.state.specs.declared.settings.Settings.{Settings}
 use Rattle.state.specs.declared.state.State.{State}
-use Rattle.machine.specs.Step.{Step, uncounted, stepped}
+use Rattle.machine.specs.Step.{stepped}
 use Rattle.machine.specs.Single.{callRefusal, doneOrStepped, Steps}
 use Rattle.machine.specs.declared.single.SingleStep.{SingleStep}
 

@@ -36,9 +36,9 @@ use Rattle.state.specs.Settings.{trapsOverflow, trapsLeft}
 use Rattle.state.specs.State.{resetState}
 use Rattle.state.specs.declared.settings.Circular.{Circular}
 use Rattle.state.specs.declared.settings.Settings.{Settings}
-use Rattle.state.specs.declared.state.Loops.{Loops}
 use Rattle.state.specs.declared.state.State.{State}
-use Rattle.state.proofs.AcceptExamples.{circle, none, slots}
+use Rattle.state.proofs.Made.{slots, made, _but_, reg, inA, inB, at, looping, due, by, flags, one, two}
+use Rattle.state.proofs.AcceptExamples.{circle, none}
 use Rattle.effects.specs.Pointer.{movedOf, stepOf, raisedOf, changeOf}
 use Rattle.effects.specs.Access.{operandAccess, prefetchAccess, backAccess, wordAt, changed}
 use Rattle.effects.specs.Mac.{exactBy, macExact, macAccesses, differenceOf, arrived, macRegisters, macWork}
@@ -84,62 +84,13 @@ memory = 100 ∷ 101 ∷ 102 ∷ 103 ∷ 104 ∷ 105 ∷ 106 ∷ 107 ∷ 108 ∷
 abbrev registers : List ℕ
 registers = 10 ∷ 11 ∷ 12 ∷ 13 ∷ 14 ∷ 15 ∷ 16 ∷ 17 ∷ 0x1002 ∷ 0x1004 ∷ 0x1010 ∷ 0x1012 ∷ 2 ∷ 0x1014 ∷ []
 
--- a state of all its parts: registers, A, B, pc, loops, repeat left, mode word, OA, OB, SA, SB
-abbrev made : List ℕ → ℤ → ℤ → ℕ → Loops → ℕ → ℕ → Bool → Bool → Bool → Bool → State
-made w a b pc loops due mode oa ob sa sb =
-    record { core = record { w = w; a = a; b = b; pc = pc; loops = loops; repeat = due; mode = mode; oa = oa; ob = ob }; sa = sa; sb = sb }
-
 -- A 3, B 5, no loop, no repeat, reset mode, no flag
 abbrev start : State
 start = made registers (pos 3) (pos 5) 0 (slots (replicate 4 0) (replicate 4 0) 0) 0 0x20 false false false false
 
-infixl 12 _but_
--- a state with one part replaced
-abbrev _but_ : State → (State → State) → State
-s but f = f s
-
--- W r
-abbrev reg : ℕ → ℕ → State → State
-reg r x s = let c = s .core in made (set (c .w) r x) (c .a) (c .b) (c .pc) (c .loops) (c .repeat) (c .mode) (c .oa) (c .ob) (s .sa) (s .sb)
-
--- A
-abbrev inA : ℤ → State → State
-inA v s = let c = s .core in made (c .w) v (c .b) (c .pc) (c .loops) (c .repeat) (c .mode) (c .oa) (c .ob) (s .sa) (s .sb)
-
--- B
-abbrev inB : ℤ → State → State
-inB v s = let c = s .core in made (c .w) (c .a) v (c .pc) (c .loops) (c .repeat) (c .mode) (c .oa) (c .ob) (s .sa) (s .sb)
-
--- pc
-abbrev at : ℕ → State → State
-at pc s = let c = s .core in made (c .w) (c .a) (c .b) pc (c .loops) (c .repeat) (c .mode) (c .oa) (c .ob) (s .sa) (s .sb)
-
--- the loops
-abbrev looping : Loops → State → State
-looping l s = let c = s .core in made (c .w) (c .a) (c .b) (c .pc) l (c .repeat) (c .mode) (c .oa) (c .ob) (s .sa) (s .sb)
-
--- repeat left
-abbrev due : ℕ → State → State
-due n s = let c = s .core in made (c .w) (c .a) (c .b) (c .pc) (c .loops) n (c .mode) (c .oa) (c .ob) (s .sa) (s .sb)
-
--- the mode word
-abbrev by : ℕ → State → State
-by mode s = let c = s .core in made (c .w) (c .a) (c .b) (c .pc) (c .loops) (c .repeat) mode (c .oa) (c .ob) (s .sa) (s .sb)
-
--- OA, OB, SA, SB
-abbrev flags : Bool → Bool → Bool → Bool → State → State
-flags oa ob sa sb s = let c = s .core in made (c .w) (c .a) (c .b) (c .pc) (c .loops) (c .repeat) (c .mode) oa ob sa sb
-
 -- all registers zero
 abbrev zeros : State → State
 zeros s = let c = s .core in made (replicate 14 0) (c .a) (c .b) (c .pc) (c .loops) (c .repeat) (c .mode) (c .oa) (c .ob) (s .sa) (s .sb)
-
--- one loop: DO's number and passes left; two, the outer first
-abbrev one : ℕ → ℕ → State → State
-one d n s = looping (slots (d ∷ 0 ∷ 0 ∷ 0 ∷ []) (n ∷ 0 ∷ 0 ∷ 0 ∷ []) 1) s
-
-abbrev two : ℕ → ℕ → ℕ → ℕ → State → State
-two d n d′ n′ s = looping (slots (d ∷ d′ ∷ 0 ∷ 0 ∷ []) (n ∷ n′ ∷ 0 ∷ 0 ∷ []) 2) s
 
 -- a step without trap
 abbrev goes : State → List ℕ → Step

@@ -21,6 +21,7 @@ use Rattle.state.specs.declared.settings.Circular.{Circular}
 use Rattle.state.specs.declared.settings.Settings.{Settings}
 use Rattle.state.specs.declared.state.Loops.{Loops}
 use Rattle.state.specs.declared.state.State.{State}
+use Rattle.state.proofs.Made.{slots}
 
 -- ---- refusal 6
 
@@ -150,10 +151,6 @@ reversed-sizes = refl
 unfoldable pub seven : List Operation → State → ℕ
 unfolding stateRefusal isState areLoops isRepeatLeft isAccumulator isGoodMode outside lowest highest
 seven p s = stateRefusal p s
-
--- the four slots and how many are in use
-abbrev pub slots : List ℕ → List ℕ → ℕ → Loops
-slots starts passes depth = record { starts = starts; passes = passes; depth = depth }
 
 abbrev pub no-loop : Loops
 no-loop = slots (replicate 4 0) (replicate 4 0) 0

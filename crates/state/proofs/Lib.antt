@@ -1,3 +1,4 @@
--- Worked examples first, then laws.
+-- Worked examples first, with the states they start from, then laws.
+pub mod Made
 pub mod AcceptExamples
 pub mod Around

@@ -2,7 +2,6 @@
 use Prim.Native.Nat.{_-_, _≤_, _<_}
 use native.Mathlib.Omega.{arith}
 use borrow.Author.Tests.{lt-ltb, le-ltb, eq-eqb, ne-eqb}
-use denote.Ref.{now}
 use Rattle.machine.specs.Control.{advanced}
 use Rattle.program.specs.File.{operationCount}
 use Rattle.program.proofs.Accepted.{accepted-blocks}

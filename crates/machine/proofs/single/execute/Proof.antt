@@ -2,7 +2,6 @@
 use mathlib.Core.Path.{_≡_, refl, ap, _∙_}
 use Prim.Native.Nat.{_-_, _<_}
 use lib.ListN.{length}
-use denote.Ref.{now}
 use Rattle.integers.proofs.Whole.{same}
 use Rattle.effects.specs.Lent.{stateOf}
 use Rattle.program.specs.File.{operationCount, programOf}
