@@ -1,12 +1,12 @@
 -- From clear flags the engine's run is the ledger's, or the ledger leaves the limits and a flag stays set to the end. Assumes nothing.
 use Prim.Native.Nat.{ℕ, zero, suc}
-use mathlib.Core.Bool.{Bool, true, false, cond}
-use mathlib.Core.Path.{_≡_, refl, _∙_}
+use mathlib.Core.Bool.{true, false, false≢true}
+use mathlib.Core.Path.{_≡_, refl, sym, _∙_}
 use mathlib.Core.Logic.{_⊎_, inl, inr, ⊎-elim}
 use mathlib.Core.List.{List, [], _∷_}
 use lib.Dec.{eqb}
 use lib.IntN.{ℤ}
-use Rattle.integers.proofs.Whole.{by-test, neither}
+use Rattle.integers.proofs.Whole.{by-test, same-test, neither}
 use Rattle.accumulator.specs.Mode.{modeOf}
 use Rattle.accumulator.specs.Limit.{hasLeft, overflows, writeOf}
 use Rattle.accumulator.specs.declared.mode.Mode.{Mode}
@@ -30,7 +30,7 @@ use Rattle.engine.specs.Run.Stop.{ended, left}
 use Rattle.engine.specs.Run.Turn.{over, last, next}
 use Rattle.engine.specs.Engine.{Engine, turnOf, engineTurn, engineDone, engineFrom}
 use Rattle.engine.specs.Ledger.{Entry, Ledger, exactTrap, keepExact, ledgerTurn, ledgerDone, ledgerFrom}
-use Rattle.engine.specs.Exact.{holdsClear}
+use Rattle.engine.specs.Exact.{holdsClear, FlagsClear}
 use Rattle.engine.proofs.Runs.{Keeps, run-keeps}
 
 -- ---- what agreement is
@@ -43,13 +43,29 @@ cleared c = record { core = c; sa = false; sb = false }
 abbrev pub clear : Ledger → Engine
 clear y = record { state = cleared (y .core); memory = y .memory }
 
--- a saturation flag is set
+-- an accumulator's saturation flag is set
+abbrev pub SetIn : Target → State → Type 0
+SetIn t s = accumulatorAt s t .saturation ≡ true
+
+-- one of the two
 abbrev pub Flagged : State → Type 0
-Flagged s = (s .sa ≡ true) ⊎ (s .sb ≡ true)
+Flagged s = SetIn A s ⊎ SetIn B s
 
 -- in the engine
 abbrev pub FlaggedIn : Engine → Type 0
 FlaggedIn x = Flagged (x .state)
+
+-- what keeps each flag keeps one of the two
+pub either : {s s′ : State} → ((t : Target) → SetIn t s → SetIn t s′) → Flagged s → Flagged s′
+either keep h = ⊎-elim (λ f. inl (keep A f)) (λ f. inr (keep B f)) h
+
+-- which cannot be where both are clear
+pub flagged-clear : (s : State) → Flagged s → FlagsClear s → ⊥
+flagged-clear s f c = ⊎-elim (λ e. false≢true (sym (c .sa) ∙ e)) (λ e. false≢true (sym (c .sb) ∙ e)) f
+
+-- a turn keeps a flag that is set
+abbrev Stays : Target → Turn Engine → Type 0
+Stays t = Keeps (λ (x : Engine). SetIn t (x .state)) (λ (x : Engine). SetIn t (x .state))
 
 -- a step is made, and a flag is set after it
 abbrev Sets : Turn Engine → Type 0
@@ -73,11 +89,6 @@ Ends x y left = FlaggedIn (x .machine)
 abbrev pub Agree : Result Engine → Result Ledger → Type 0
 Agree x y = Ends x y (y .stop)
 
--- what holds of both pairs holds of the pair that a test chooses
-same-test : {X Y : Type 0} (P : X → Y → Type 0) (t : Bool) {x x′ : X} {y y′ : Y} → P x y → P x′ y′ → P (cond t x x′) (cond t y y′)
-same-test P true h h′ = h
-same-test P false h h′ = h′
-
 -- ---- the exact result
 
 module _ (m : Mode) where
@@ -99,11 +110,13 @@ module _ (m : Mode) where
   write-flags B r c e = inr (saturation-only (accumulatorAt (cleared c) B) m B r refl ∙ e)
 
   -- and a flag that was set stays
-  settle-flags : (traps : ℕ) (e : Exact) (s : State) → Flagged s → Flagged (settleOf traps m e s .state)
+  settle-stays : (traps : ℕ) (t : Target) (e : Exact) (s : State) → SetIn t s → SetIn t (settleOf traps m e s .state)
   unfolding settleOf
-  settle-flags traps Keep s h = h
-  settle-flags traps (ExactResult A r) s h = ⊎-elim (λ f. inl (saturation-stays (accumulatorAt s A) m A r f)) (λ f. inr f) h
-  settle-flags traps (ExactResult B r) s h = ⊎-elim (λ f. inl f) (λ f. inr (saturation-stays (accumulatorAt s B) m B r f)) h
+  settle-stays traps t Keep s h = h
+  settle-stays traps A (ExactResult A r) s h = saturation-stays (accumulatorAt s A) m A r h
+  settle-stays traps A (ExactResult B r) s h = h
+  settle-stays traps B (ExactResult A r) s h = h
+  settle-stays traps B (ExactResult B r) s h = saturation-stays (accumulatorAt s B) m B r h
 
 -- ---- one step
 
@@ -122,9 +135,10 @@ clears-none (o ∷ p) (suc i) h = clears-none p i (neither (clears (controlOf o)
 
 module _ (p : List Operation) (o : Operation) (stays : clears (controlOf o) ≡ false) where
   -- control leaves a flag that is set
-  controlled-flags : (s : State) → Flagged s → Flagged (stateControlled p (controlOf o) s)
+  controlled-stays : (t : Target) (s : State) → SetIn t s → SetIn t (stateControlled p (controlOf o) s)
   unfolding stateControlled
-  controlled-flags s h = rw stays h
+  controlled-stays A s h = rw stays h
+  controlled-stays B s h = rw stays h
 
   -- and flags that are clear
   controlled-clear : (c : Core) → stateControlled p (controlOf o) (cleared c) ≡ cleared (controlled p (controlOf o) c)
@@ -139,16 +153,16 @@ module _ (p : List Operation) (o : Operation) (stays : clears (controlOf o) ≡ 
     settling-follows (ExactResult t r) c memory l =
         by-test (Follows (settling p o traps m (ExactResult t r) (cleared c) memory)) (hasLeft m t r)
         (λ e.
-        let set = controlled-flags _ (write-flags m t r c e) in
+        let set = either (λ t. controlled-stays t _) (write-flags m t r c e) in
         by-test Sets (eqb (trapAfter traps m t r) 0) (λ f. set) (λ f. set))
         (λ e.
         rw (trap-inside m traps t r e, write-exact m t r c e, controlled-clear (withAccumulator c t r (overflows r)))
         (same-test Follows (eqb (exactTrap traps t r) 0) refl refl))
 
-    settling-flags : (e : Exact) (s : State) (memory : List ℕ) → Flagged s → Keeps FlaggedIn FlaggedIn (settling p o traps m e s memory)
-    settling-flags e s memory h =
-        let set = controlled-flags _ (settle-flags m traps e s h) in
-        by-test (Keeps FlaggedIn FlaggedIn) (eqb (settleOf traps m e s .trap) 0) (λ f. set) (λ f. set)
+    settling-stays : (t : Target) (e : Exact) (s : State) (memory : List ℕ) → SetIn t s → Stays t (settling p o traps m e s memory)
+    settling-stays t e s memory h =
+        let set = controlled-stays t _ (settle-stays m traps t e s h) in
+        by-test (Stays t) (eqb (settleOf traps m e s .trap) 0) (λ f. set) (λ f. set)
 
 -- ---- a run
 
@@ -176,19 +190,27 @@ module _ (p : List Operation) (settings : Settings) (none : holdsClear p ≡ fal
       (settling-follows p o (clears-none p (c .pc) none) (settings .traps) m (work .effect .exact) _ _ _) refl
 
   -- a step from a flag that is set
-  turn-flags : (x : Engine) → FlaggedIn x → Keeps FlaggedIn FlaggedIn (engineTurn p settings x)
+  turn-stays : (t : Target) (x : Engine) → SetIn t (x .state) → Stays t (engineTurn p settings x)
   unfolding engineTurn stepped completed
-  turn-flags x h =
+  turn-stays t x h =
       let c = x .state .core in
       let m = modeOf (c .mode) in
       let o = operationAt p (c .pc) in
       let work = workOf settings m o c (x .memory) in
-      by-test (λ (r : Step). Keeps FlaggedIn FlaggedIn (turnOf r)) (eqb (work .effect .trap) 0)
-      (λ e. settling-flags p o (clears-none p (c .pc) none) (settings .traps) m (work .effect .exact) (stateAfter m work (x .state)) _ h) (λ e. tt)
+      by-test (λ (r : Step). Stays t (turnOf r)) (eqb (work .effect .trap) 0)
+      (λ e. settling-stays p o (clears-none p (c .pc) none) (settings .traps) m t (work .effect .exact) (stateAfter m work (x .state)) _ (keep t h)) (λ e. tt)
+    where
+      keep : (t : Target) → SetIn t (x .state) → SetIn t (stateAfter (modeOf (x .state .core .mode)) (workOf settings (modeOf (x .state .core .mode)) (operationAt p (x .state .core .pc)) (x .state .core) (x .memory)) (x .state))
+      keep A h = h
+      keep B h = h
 
   -- a run from a flag that is set
-  run-flags : (n k : ℕ) (x : Engine) → FlaggedIn x → FlaggedIn (engineFrom p settings n k x .machine)
-  run-flags = run-keeps (engineDone p) (λ k. engineTurn p settings) (λ k. FlaggedIn) FlaggedIn (λ k x h. h) (λ k x e h. turn-flags x h)
+  pub run-stays : (t : Target) (n k : ℕ) (x : Engine) → SetIn t (x .state) → SetIn t (engineFrom p settings n k x .machine .state)
+  run-stays t =
+      run-keeps (engineDone p) (λ k. engineTurn p settings) (λ k x. SetIn t (x .state)) (λ x. SetIn t (x .state)) (λ k x h. h) (λ k x e h. turn-stays t x h)
+
+  pub run-flags : (n k : ℕ) (x : Engine) → FlaggedIn x → FlaggedIn (engineFrom p settings n k x .machine)
+  run-flags n k x h = either (λ t. run-stays t n k x) h
 
   -- a run from clear flags
   pub run-agrees : (n k : ℕ) (y : Ledger) → Agree (engineFrom p settings n k (clear y)) (ledgerFrom p settings n k y)

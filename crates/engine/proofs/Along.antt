@@ -1,5 +1,5 @@
 -- A run by its steps: what the loop of `run_accepted` keeps, and how it ends. Assumes nothing.
-use Prim.Native.Nat.{ℕ, zero, suc, _+_, _-_, _≤_, _<_}
+use Prim.Native.Nat.{ℕ, suc, _+_, _-_, _≤_, _<_}
 use mathlib.Core.Bool.{true, false, true≢false}
 use mathlib.Core.List.{List}
 use mathlib.Core.Path.{_≡_, refl, sym, ap, _∙_}
@@ -10,16 +10,19 @@ use lib.Dec.{eqb}
 use lib.ListN.{length}
 use Rattle.integers.proofs.Whole.{by-test}
 use Rattle.accumulator.specs.Mode.{modeOf}
+use Rattle.operations.specs.Listed.{isListed}
 use Rattle.operations.specs.declared.operation.Operation.{Operation}
+use Rattle.program.specs.Placement.{isPlaced}
 use Rattle.state.specs.declared.settings.Settings.{Settings}
 use Rattle.state.specs.declared.state.State.{State}
 use Rattle.effects.specs.Operations.{workOf}
 use Rattle.machine.specs.Step.{Step, operationAt, uncounted, completed, stepped}
-use Rattle.machine.proofs.Standing.{Standing, stepped-standing}
 use Rattle.engine.specs.Run.{Result, run}
 use Rattle.engine.specs.Run.Stop.{ended}
 use Rattle.engine.specs.Engine.{Engine, engineTurn, engineDone, engineFrom, engineRun}
 use Rattle.engine.specs.declared.ending.Ending.the-variants.{Done, Spent, Trap}
+use Rattle.engine.proofs.Runs.{run-done}
+use Rattle.engine.proofs.Fits.{Fit, stepped-fits}
 
 -- ---- one step
 
@@ -42,18 +45,17 @@ uncounted-leaves p settings x =
 
 -- after so many steps the run from the start goes on from the engine x
 pub record Along (p : List Operation) (settings : Settings) (budget : ℕ) (s₀ : State) (memory₀ : List ℕ) (x : Engine) (steps : ℕ) : Type 0 where
-  pub standing : Standing (length p) (x .state .core)
+  pub fit : Fit p (length memory₀) x
   pub within : steps ≤ budget
-  pub long : length (x .memory) ≡ length memory₀
   pub same : engineFrom p settings (budget - steps) steps x ≡ engineRun p settings budget s₀ memory₀
 
 -- it goes on from the start
-pub begins : (p : List Operation) (settings : Settings) (budget : ℕ) (s : State) (memory : List ℕ) → Standing (length p) (s .core)
-    → Along p settings budget s memory (record { state = s; memory = memory }) 0
+pub begins : (p : List Operation) (settings : Settings) (budget : ℕ) (s : State) (memory : List ℕ)
+    → Fit p (length memory) (record { state = s; memory = memory }) → Along p settings budget s memory (record { state = s; memory = memory }) 0
 unfolding engineRun
 begins p settings budget s memory h =
     let whole : budget - 0 ≡ budget = omega arith in
-    record { standing = h; within = omega arith; long = refl; same = rw whole }
+    record { fit = h; within = omega arith; same = rw whole }
 
 -- the run from a state that the code has put together of its pieces is the run from the given one
 pub from-given : (p : List Operation) (settings : Settings) (budget : ℕ) (memory : List ℕ) {s₀ s : State} {y : Result Engine} → s₀ ≡ s
@@ -62,13 +64,9 @@ from-given p settings budget memory e h = h ∙ ap (λ (z : State). engineRun p 
 
 module _ {p : List Operation} {settings : Settings} {budget : ℕ} {s₀ : State} {memory₀ : List ℕ} {x : Engine} {steps : ℕ}
     (h : Along p settings budget s₀ memory₀ x steps) where
-  done-now : (n : ℕ) → engineDone p x ≡ true → record { machine = x; steps = steps; stop = ended Done } ≡ engineFrom p settings n steps x
-  unfolding run
-  done-now zero d = rw d
-  done-now (suc n) d = rw d
-
   pub ends-done : x .state .core .pc ≡ length p → record { machine = x; steps = steps; stop = ended Done } ≡ engineRun p settings budget s₀ memory₀
-  ends-done e = done-now (budget - steps) (eq-eqb (x .state .core .pc) (length p) e) ∙ h .same
+  ends-done e =
+      sym (run-done (engineDone p) (λ k. engineTurn p settings) (budget - steps) steps x (eq-eqb (x .state .core .pc) (length p) e)) ∙ h .same
 
   module _ (more : x .state .core .pc ≡ length p → ⊥) where
     not-done : engineDone p x ≡ false
@@ -83,7 +81,7 @@ module _ {p : List Operation} {settings : Settings} {budget : ℕ} {s₀ : State
 
     -- there is an operation at pc
     pub at-operation : x .state .core .pc < length p
-    at-operation = let k : x .state .core .pc ≤ length p = h .standing .at in omega arith
+    at-operation = let k : x .state .core .pc ≤ length p = h .fit .stands .at in omega arith
 
     module _ (left : steps ≡ budget → ⊥) (r : Step) (is : r ≡ stepped p settings (x .state) (x .memory)) where
       abbrev x′ : Engine
@@ -123,13 +121,12 @@ module _ {p : List Operation} {settings : Settings} {budget : ℕ} {s₀ : State
       next-now f z n = rw (not-done, sym is, f, eq-eqb (r .trap) 0 z)
 
       -- no trap
-      pub goes-on : r .counted ≡ true → r .trap ≡ 0 → length (r .memory) ≡ length (x .memory)
+      pub goes-on : isPlaced p ≡ true → ((i : ℕ) → i < length p → isListed (operationAt p i) ≡ true) → r .counted ≡ true → r .trap ≡ 0
           → Along p settings budget s₀ memory₀ x′ (steps + 1)
-      goes-on f z k =
+      goes-on placed ok f z =
           record {
-            standing = rw is (stepped-standing p settings (x .state) (x .memory) (h .standing) at-operation);
+            fit = rw is (stepped-fits p placed ok settings (length memory₀) x at-operation (h .fit));
             within = let w : steps ≤ budget = h .within in omega arith;
-            long = k ∙ h .long;
             same =
                 ap (λ (j : ℕ). engineFrom p settings (budget - (steps + 1)) j x′) (add-one steps)
                 ∙ (next-now f z (budget - (steps + 1)) ∙ from-here);

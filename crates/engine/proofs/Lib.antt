@@ -2,8 +2,9 @@ pub mod RunExamples
 pub mod Table
 pub mod Runs
 pub mod Agree
-pub mod Places
+pub mod Split
 pub mod Stored
 pub mod Sums
+pub mod Fits
 pub mod Along
 pub mod Calls

@@ -8,9 +8,9 @@ use lib.ListN.{set, replicate}
 use Rattle.integers.specs.Floor.{remainderOf}
 use Rattle.integers.specs.Bits.{lowBits, signedOf}
 use Rattle.integers.specs.Range.{lowest, highest, outside, nearer, limitedTo}
-use Rattle.accumulator.specs.Mode.{modeOf, saturates}
+use Rattle.accumulator.specs.Mode.{isGoodMode, modeOf, saturates}
 use Rattle.accumulator.specs.Product.{readOf, productOf}
-use Rattle.accumulator.specs.Limit.{limitBits, hasLeft, keptOf, overflows, writeOf}
+use Rattle.accumulator.specs.Limit.{isAccumulator, limitBits, hasLeft, keptOf, overflows, writeOf}
 use Rattle.accumulator.specs.Shift.{shiftOf, shiftAllowed}
 use Rattle.accumulator.specs.Store.{isOdd, roundsUp, roundedOf, needsLimiting, storedWord, storeOf}
 use Rattle.accumulator.specs.declared.mode.Target.{Target}
@@ -33,6 +33,7 @@ use Rattle.operations.specs.declared.operation.Operation.the-variants.{SacR, Li
 use Rattle.operations.specs.declared.operation.Operation.the-variants.{ClearSaturation}
 use Rattle.state.specs.Settings.{noCircular, trapsOverflow, trapsLeft}
 use Rattle.state.specs.State.{noLoops}
+use Rattle.state.specs.Accept.{areLoops, isRepeatLeft, isState, stateRefusal}
 use Rattle.state.specs.declared.settings.Settings.{Settings}
 use Rattle.state.specs.declared.state.State.{State}
 use Rattle.state.proofs.Made.{made, _but_, reg, inA, inB, at, looping, due, by, flags, one, two}
@@ -46,7 +47,7 @@ use Rattle.machine.specs.Write.{trapAfter, settleOf, valueWord, putRegister, pu
 use Rattle.machine.specs.Loops.{pushed, withPasses, popped}
 use Rattle.machine.specs.Control.{fallen, advanced, repeated, entered, endedEarly, controlOf, controlled, stateControlled}
 use Rattle.machine.specs.Step.{completed, stepped}
-use Rattle.engine.specs.Ending.{numberOf, nameOf}
+use Rattle.engine.specs.Ending.{numberOf, nameOf, codeOf}
 use Rattle.engine.specs.Run.{Stop, Result, run}
 use Rattle.engine.specs.Run.Stop.{ended, left}
 use Rattle.engine.specs.Engine.{Engine, engineTurn, engineRun}
@@ -340,6 +341,17 @@ trap-last :
     × (engine sum (trapping 0x400) 0 near memory ≡ ends Spent 0 near memory)
 unfolding engine
 trap-last = (refl, refl, refl, refl)
+
+-- where the step ends a loop its slot is zero, and the state is accepted again
+abbrev summing-loop : List Operation
+summing-loop = Do 0 2 ∷ Literal 0 7 ∷ AddAccumulators A ∷ []
+
+abbrev ended-loop : State
+ended-loop = near but at 3 but reg 0 7 but inA (pos (2 ^ 31)) but flags true false false false
+
+trap-at-loop-end : (engine summing-loop (trapping 0x400) 9 near memory ≡ ends (Trap 6) 3 ended-loop memory) × (stateRefusal summing-loop ended-loop ≡ 0)
+unfolding engine stateRefusal isState areLoops isRepeatLeft isAccumulator isGoodMode outside lowest highest modeOf
+trap-at-loop-end = (refl, refl)
 
 -- 7 OB with OVBTE, 0200 hex: -2^31 negated
 trap-7 :
@@ -769,7 +781,7 @@ clears-anywhere = (refl, refl, refl, refl, refl, refl, refl, refl)
 
 -- ---- endings
 
--- done, spent, trap7, refused1 in ASCII, and their numbers
+-- done, spent, trap7, refused1 in ASCII, and their numbers and codes
 names :
     (map nameOf (Done ∷ Spent ∷ Trap 7 ∷ Refused 1 ∷ [])
     ≡ (100 ∷ 111 ∷ 110 ∷ 101 ∷ 0 ∷ 0 ∷ 0 ∷ 0 ∷ [])
@@ -778,5 +790,6 @@ names :
     ∷ (114 ∷ 101 ∷ 102 ∷ 117 ∷ 115 ∷ 101 ∷ 100 ∷ 49 ∷ [])
     ∷ [])
     × (map numberOf (Done ∷ Spent ∷ Trap 7 ∷ Refused 1 ∷ []) ≡ 0 ∷ 0 ∷ 7 ∷ 1 ∷ [])
-unfolding nameOf numberOf
-names = (refl, refl)
+    × (map codeOf (Done ∷ Spent ∷ Trap 1 ∷ Trap 7 ∷ Refused 1 ∷ Refused 15 ∷ []) ≡ 0x00 ∷ 0x10 ∷ 0x21 ∷ 0x27 ∷ 0x31 ∷ 0x3f ∷ [])
+unfolding nameOf numberOf codeOf
+names = (refl, refl, refl)

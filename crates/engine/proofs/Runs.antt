@@ -1,13 +1,21 @@
 -- A run stays within its budget, and what every step keeps it keeps: by induction on the budget left. Assumes nothing.
 use Prim.Native.Nat.{ℕ, zero, suc, _+_, _≤_}
-use mathlib.Core.Bool.{Bool, false}
+use mathlib.Core.Bool.{Bool, true, false}
 use mathlib.Core.Path.{_≡_}
 use native.Mathlib.Omega.{arith}
 use Rattle.integers.proofs.Whole.{by-test}
 use Rattle.engine.specs.Run.{Turn, Result, after, run}
+use Rattle.engine.specs.Run.Stop.{ended}
 use Rattle.engine.specs.Run.Turn.{over, last, next}
+use Rattle.engine.specs.declared.ending.Ending.the-variants.{Done}
 
 module _ {S : Type 0} (done : S → Bool) (turn : ℕ → S → Turn S) where
+  -- where it is done it ends at once, whatever is left of the budget
+  pub run-done : (n k : ℕ) (s : S) → done s ≡ true → run done turn n k s ≡ record { machine = s; steps = k; stop = ended Done }
+  unfolding run
+  run-done zero k s e = rw e
+  run-done (suc n) k s e = rw e
+
   after-within : (n k : ℕ) (s : S) (go : S → Result S) (u : Turn S) → ((s′ : S) → go s′ .steps ≤ suc k + n) → after s k go u .steps ≤ k + suc n
   after-within n k s go (over e) on = omega arith
   after-within n k s go (last e s′) on = omega arith

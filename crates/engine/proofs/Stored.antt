@@ -8,7 +8,7 @@ use native.Mathlib.Nat.{add-suc, suc-add, zero-add}
 use native.Mathlib.Numerals.{add-one}
 use lib.Dec.{eqb, ltb}
 use lib.IntN.{ℤ}
-use lib.ListN.{length, getD, length-set}
+use lib.ListN.{length, getD}
 use lib.Seq.{getD-set-same}
 use Rattle.integers.specs.Bits.{signedOf}
 use Rattle.integers.proofs.Whole.{by-test, never}
@@ -47,7 +47,8 @@ use Rattle.engine.specs.Ledger.{Entry, isStored, listed, Ledger, exactTr
 use Rattle.engine.specs.Exact.{holdsClear, wordIn, storedAt}
 use Rattle.engine.proofs.Runs.{Keeps, run-keeps}
 use Rattle.engine.proofs.Agree.{cleared, clear, Follows, turn-follows}
-use Rattle.engine.proofs.Places.{Fits, work-placed, listed-at}
+use Rattle.machine.proofs.Words.{put-long}
+use Rattle.machine.proofs.Places.{Fits, work-fitted, listed-at}
 
 -- ---- the order of execution leaves the registers
 
@@ -95,12 +96,6 @@ module _ (p : List Operation) where
 
 -- ---- a store
 
-put-long : (place : Place) (x : ℕ) (w : List ℕ) → length (putRegister place x w) ≡ length w
-unfolding putRegister
-put-long Nowhere x w = refl
-put-long (Register r) x w = length-set w r x
-put-long (Memory i) x w = refl
-
 -- a word stored to a place of the machine stands there
 put-stands : (place : Place) (x : ℕ) (w memory : List ℕ) (d : Core) → length w ≡ 14 → Fits (length memory) place
     → d .w ≡ putRegister place x w → isStored place ≡ true
@@ -136,15 +131,15 @@ module _ (p : List Operation) (settings : Settings) (ok : (i : ℕ) → i < leng
   turn-leaves k y long =
       let place = workAt y .effect .place in
       let word = valueWord (modeAt y) (workAt y .effect .value) in
-      let (same, fits) = work-placed settings (modeAt y) (y .core) (y .memory) (operationAt p (y .core .pc)) (listed-at p ok (y .core .pc)) in
+      let fitted = work-fitted settings (modeAt y) (y .core) (y .memory) (operationAt p (y .core .pc)) (listed-at p ok (y .core .pc)) in
       by-test (Keeps (After (suc k) y) (After (suc k) y)) (eqb (workAt y .effect .trap) 0)
       (λ e.
       kept-leaves p (After (suc k) y) (settings .traps) (modeAt y) (operationAt p (y .core .pc)) (workAt y .effect .exact) _ _ _
       (λ d h.
       record {
-        long = ap length h ∙ put-long place word (workAt y .w) ∙ same ∙ long;
+        long = ap length h ∙ put-long place word (workAt y .w) ∙ fitted .long ∙ long;
         lists = refl;
-        stands = put-stands place word (workAt y .w) (y .memory) d (same ∙ long) fits h;
+        stands = put-stands place word (workAt y .w) (y .memory) d (fitted .long ∙ long) (fitted .place) h;
       }))
       (λ e. tt)
 

@@ -1,8 +1,8 @@
 -- Exact sums of every run: of a program that holds no clearing operation, from a state with both flags clear. Assumes nothing.
 use Prim.Native.Nat.{ℕ, _<_}
-use mathlib.Core.Bool.{Bool, true, false, false≢true}
+use mathlib.Core.Bool.{true, false, false≢true}
 use mathlib.Core.Path.{_≡_, refl, sym, ap, _∙_, subst}
-use mathlib.Core.Logic.{⊎-elim, _↔_}
+use mathlib.Core.Logic.{_↔_}
 use mathlib.Core.List.{List, []}
 use lib.ListN.{length}
 use Rattle.operations.specs.Listed.{isListed}
@@ -11,19 +11,15 @@ use Rattle.state.specs.declared.settings.Settings.{Settings}
 use Rattle.state.specs.declared.state.Core.{Core}
 use Rattle.state.specs.declared.state.State.{State}
 use Rattle.machine.specs.Step.{operationAt}
-use Rattle.engine.specs.Run.{Stop, Result}
+use Rattle.engine.specs.Run.{Stop, isLeft, Result}
 use Rattle.engine.specs.Run.Stop.{ended, left}
 use Rattle.engine.specs.Engine.{Engine, engineRun}
 use Rattle.engine.specs.Ledger.{Ledger, ledgerRun}
 use Rattle.engine.specs.Exact.{holdsClear, FlagsClear, Alike, NeverLeft, ExactSums}
-use Rattle.engine.proofs.Agree.{cleared, Ends, run-agrees}
+use Rattle.engine.proofs.Agree.{cleared, flagged-clear, Ends, run-agrees}
 use Rattle.engine.proofs.Stored.{run-rights}
 
 -- ---- what agreement says
-
-abbrev isLeft : Stop → Bool
-isLeft (ended e) = false
-isLeft left = true
 
 module _ (x : Result Engine) (y : Result Ledger) where
   flags-of : (stop : Stop) → y .stop ≡ stop → Ends x y stop → FlagsClear (x .machine .state) ↔ NeverLeft y
@@ -32,7 +28,7 @@ module _ (x : Result Engine) (y : Result Ledger) where
     λ never. record { sa = ap (λ (r : Result Engine). r .machine .state .sa) a; sb = ap (λ (r : Result Engine). r .machine .state .sb) a },
   )
   flags-of left is a = (
-    λ c. absurd (⊎-elim (λ f. false≢true (sym (c .sa) ∙ f)) (λ f. false≢true (sym (c .sb) ∙ f)) a),
+    λ c. absurd (flagged-clear (x .machine .state) a c),
     λ never. absurd (never is),
   )
 

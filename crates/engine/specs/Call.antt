@@ -37,6 +37,8 @@ pub record Runs (file : List ℕ) (settings : Settings) (s : State) (memory : Li
   pub runs : resultOf r after ≡ runOf file settings s memory budget
   -- within its budget
   pub within : r .steps ≤ budget
+  -- an accepted call returns a state that is accepted again, for every ending
+  pub again : callRefusal file settings s (length memory) ≡ 0 → callRefusal file settings (r .state) (length after) ≡ 0
   -- exact sums: an accepted call, no operation that clears a saturation flag, both flags clear
   pub exact :
       callRefusal file settings s (length memory) ≡ 0 → holdsClear (programOf file) ≡ false → FlagsClear s →

@@ -1,4 +1,4 @@
--- The names and numbers of endings.
+-- The names, numbers and codes of endings.
 use Prim.Native.Nat.{ℕ, _+_, _%_}
 use mathlib.Core.List.{List, [], _∷_}
 use Rattle.engine.specs.declared.ending.Ending.{Ending}
@@ -21,3 +21,10 @@ nameOf Done = 100 ∷ 111 ∷ 110 ∷ 101 ∷ 0 ∷ 0 ∷ 0 ∷ 0 ∷ []
 nameOf Spent = 115 ∷ 112 ∷ 101 ∷ 110 ∷ 116 ∷ 0 ∷ 0 ∷ 0 ∷ []
 nameOf (Trap n) = 116 ∷ 114 ∷ 97 ∷ 112 ∷ digitOf n ∷ 0 ∷ 0 ∷ 0 ∷ []
 nameOf (Refused n) = 114 ∷ 101 ∷ 102 ∷ 117 ∷ 115 ∷ 101 ∷ 100 ∷ digitOf n ∷ []
+
+-- a code of two hex digits: 00 done, 10 spent, 2n trap n, 3n refusal n
+unfoldable pub codeOf : Ending → ℕ
+codeOf Done = 0x00
+codeOf Spent = 0x10
+codeOf (Trap n) = 0x20 + n % 16
+codeOf (Refused n) = 0x30 + n % 16

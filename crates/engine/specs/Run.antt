@@ -1,6 +1,6 @@
 -- Stepping and ending, common to engine and ledger. S is the machine, its memory included.
 use Prim.Native.Nat.{ℕ, zero, suc}
-use mathlib.Core.Bool.{Bool, cond}
+use mathlib.Core.Bool.{Bool, true, false, cond}
 use lib.Dec.{eqb}
 use Rattle.engine.specs.declared.ending.Ending.{Ending}
 use Rattle.engine.specs.declared.ending.Ending.the-variants.{Done, Spent, Trap}
@@ -9,6 +9,11 @@ use Rattle.engine.specs.declared.ending.Ending.the-variants.{Done, Spent
 pub data Stop : Type 0 where
   ended : Ending → Stop
   left : Stop
+
+-- marked "left"
+abbrev pub isLeft : Stop → Bool
+isLeft (ended e) = false
+isLeft left = true
 
 -- what executing the operation at pc comes to
 pub data Turn (S : Type 0) : Type 0 where

@@ -8,7 +8,8 @@ use state::state::State;
 ghost use Rattle.engine.specs.Call.{Runs};
 
 // A run of a program file from a state, with a memory that is written in place, of at most `budget` steps. A refusal leaves state and memory as they
-// came.
+// came. What an accepted call returns is accepted again, whatever the ending: a spent run goes on from the state it returned, and the next bag starts
+// the program again from that state's `restarted()`. Handed back as it is after `done`, the state answers `done` with 0 steps for ever.
 pub fn run(
     file: &[u8],
     settings: Settings,

@@ -1,6 +1,6 @@
 // How a run ends.
 ghost use mathlib.Core.Path.{_≡_};
-ghost use Rattle.engine.specs.Ending.{digitOf, nameOf, numberOf};
+ghost use Rattle.engine.specs.Ending.{digitOf, nameOf, numberOf, codeOf};
 
 // Done: pc is the count of operations. Spent: the budget's steps are made. Trap: its number, 1 to 7. Refused: its number, 1 to 7.
 pub enum Ending {
@@ -27,6 +27,18 @@ impl Ending {
             Ending::Spent => 0,
             Ending::Trap(n) => n,
             Ending::Refused(n) => n,
+        }
+    }
+
+    // One byte for an ending, two hex digits: 00 done, 10 spent, 2n trap n, 3n refusal n.
+    pub fn code(self) -> u8
+        ensures { λ r. ⌜ r ≡ codeOf self ⌝ }
+    {
+        match self {
+            Ending::Done => 0x00,
+            Ending::Spent => 0x10,
+            Ending::Trap(n) => 0x20 + n % 16,
+            Ending::Refused(n) => 0x30 + n % 16,
         }
     }
 

@@ -3,12 +3,12 @@
 -- Each law is linear in those two, so a fact on whole numbers is `omega (whole, LAW, ..)`, with a law for each operation that the fact names:
 -- `sum a b`, `less a b`, `times a k`, `floor z m h`, and `size z` for a number that is bounded by `mag`, `Within` or `SFits`. Assumes nothing.
 use mathlib.Core.Path.{_≡_, refl, sym, ap, _∙_, subst}
-use mathlib.Core.Bool.{Bool, true, false, cond, _&&_, _||_}
+use mathlib.Core.Bool.{Bool, true, false, cond, _&&_, _||_, true≢false}
 use Prim.Native.Nat.{ℕ, zero, suc, _+_, _*_, _-_, _≤_, _<_, min}
 use native.Mathlib.Omega.{arith}
-use native.Mathlib.Nat.{div-add-mod', mod-lt, mul-le-mul}
+use native.Mathlib.Nat.{div-add-mod', mod-lt, mul-le-mul, lt-of-not-le}
 use borrow.Author.Tests.{ltb-true, ltb-false, leb-true, leb-false, lt-ltb, le-ltb, le-leb, lt-leb}
-use lib.Dec.{T, ltb}
+use lib.Dec.{T, ltb, leb}
 use lib.IntN.{ℤ, pos, negsuc, negℤ, subℕ, _+ℤ_, _-ℤ_, _*ℤ_, natAbs}
 use lib.Signed.{mag, ltZ, leZ, _≤ℤ_, _<ℤ_, shrZ, nonNeg}
 
@@ -112,6 +112,19 @@ is-true false h = absurd h
 pub by-test : {X : Type 0} (P : X → Type 0) (t : Bool) {x y : X} → (t ≡ true → P x) → (t ≡ false → P y) → P (cond t x y)
 by-test P true f g = f refl
 by-test P false f g = g refl
+
+-- what holds of both pairs holds of the pair that a test chooses
+pub same-test : {X Y : Type 0} (P : X → Y → Type 0) (t : Bool) {x x′ : X} {y y′ : Y} → P x y → P x′ y′ → P (cond t x x′) (cond t y y′)
+same-test P true h h′ = h
+same-test P false h h′ = h′
+
+-- two comparisons that say the same are the same
+pub same-leb : (a b c d : ℕ) → (a ≤ b → c ≤ d) → (c ≤ d → a ≤ b) → leb a b ≡ leb c d
+same-leb a b c d there back = go (leb a b) refl
+  where
+    go : (t : Bool) → leb a b ≡ t → t ≡ leb c d
+    go true e = sym (le-leb c d (there (leb-true a b e)))
+    go false e = sym (lt-leb c d (lt-of-not-le (λ h. true≢false (sym (le-leb a b (back h)) ∙ e))))
 
 -- of an `or` that is false, both parts are; of an `and` that is true, both parts are
 pub neither : (t u : Bool) → (t || u) ≡ false → (t ≡ false) × (u ≡ false)

@@ -23,10 +23,16 @@ if-refused zero x y h = absurd (h refl)
 if-refused (suc n) x y h = refl
 
 module _ (file : List ℕ) (settings : Settings) (s : State) where
-  -- a call that is not refused has an accepted file and an accepted state
+  -- a call that is not refused has an accepted file, accepted settings and an accepted state
   pub call-file : (words : ℕ) → callRefusal file settings s words ≡ 0 → fileRefusal file ≡ 0
   unfolding callRefusal
   call-file words e = then-first (fileRefusal file) (settingsRefusal settings words then stateRefusal (programOf file) s) e
+
+  pub call-settings : (words : ℕ) → callRefusal file settings s words ≡ 0 → settingsRefusal settings words ≡ 0
+  unfolding callRefusal
+  call-settings words e =
+      then-first (settingsRefusal settings words) (stateRefusal (programOf file) s)
+      (then-second (fileRefusal file) (settingsRefusal settings words then stateRefusal (programOf file) s) e)
 
   pub call-state : (words : ℕ) → callRefusal file settings s words ≡ 0 → stateRefusal (programOf file) s ≡ 0
   unfolding callRefusal

@@ -5,6 +5,7 @@ pub mod Blocks
 pub mod Files
 pub mod Places
 pub mod Roles
+pub mod Placed
 pub mod Rebuilt
 pub mod RoundTrip
 pub mod Accepted

@@ -2,3 +2,5 @@
 pub mod Made
 pub mod AcceptExamples
 pub mod Around
+pub mod Parts
+pub mod Typing

@@ -1,13 +1,15 @@
--- Refusal 7: a state that does not fit its program.
+-- Refusal 7: a state that does not fit its program; and the restart, which fits every program.
 use Prim.Native.Nat.{ℕ, zero, suc, _-_}
 use mathlib.Core.Bool.{Bool, true, cond, not, _&&_, _||_}
 use mathlib.Core.List.{List}
+use mathlib.Core.Path.{_≡_}
 use lib.Dec.{eqb, ltb, leb}
 use lib.ListN.{length, getD}
 use Rattle.accumulator.specs.Limit.{isAccumulator}
 use Rattle.accumulator.specs.Mode.{isGoodMode}
 use Rattle.operations.specs.declared.operation.Operation.{Operation}
 use Rattle.program.specs.Placement.{roleAt, lastOf, isRepeat}
+use Rattle.state.specs.State.{restartedState}
 use Rattle.state.specs.declared.state.Loops.{Loops}
 use Rattle.state.specs.declared.state.State.{State}
 
@@ -61,3 +63,8 @@ isState p s =
 -- 7 where it is not
 unfoldable pub stateRefusal : List Operation → State → ℕ
 stateRefusal p s = cond (isState p s) 0 7
+
+-- r is the restart of s; where s is accepted for some program, r is accepted for every program
+pub record Restarts (s r : State) : Type 0 where
+  pub restarted : r ≡ restartedState s
+  pub accepted : (p q : List Operation) → stateRefusal p s ≡ 0 → stateRefusal q r ≡ 0

@@ -82,6 +82,10 @@ resetState =
       sb = false;
     }
 
+-- back at the program's start: pc 0, no loop, repeat left 0; everything else stays
+unfoldable pub restartedState : State → State
+restartedState s = record { core = goTo (s .core) 0 noLoops 0; sa = s .sa; sb = s .sb }
+
 -- SR: the flags, whether a loop is active, whether repeat left is not 0
 unfoldable pub stateStatus : State → ℕ
 stateStatus s =

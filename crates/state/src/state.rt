@@ -3,6 +3,7 @@ use accumulator::mode::Mode;
 use accumulator::status::Status;
 ghost use mathlib.Core.Path.{_≡_};
 ghost use Rattle.state.specs.State.{resetState, stateStatus};
+ghost use Rattle.state.specs.Accept.{Restarts};
 
 // Active loops, outermost first, in four slots: DO's number and passes left. A slot that is not in use is zero.
 pub struct Loops {
@@ -56,6 +57,36 @@ impl State {
             core,
             sa: false,
             sb: false,
+        }
+    }
+
+    // The state back at the program's start: pc 0, no loop, repeat left 0; everything else stays. So a bag follows a bag: after `done` pc stands past the
+    // last operation, and a run from there is done at once. An accepted state's restart is accepted for every program.
+    pub fn restarted(self) -> State
+        ensures { λ r. ⌜ Restarts self r ⌝ }
+    {
+        let before = self.core;
+        let w = before.w;
+        let loops = Loops {
+            starts: [0; 4],
+            passes: [0; 4],
+            depth: 0,
+        };
+        let core = Core {
+            w,
+            a: before.a,
+            b: before.b,
+            pc: 0,
+            loops,
+            repeat: 0,
+            mode: before.mode,
+            oa: before.oa,
+            ob: before.ob,
+        };
+        State {
+            core,
+            sa: self.sa,
+            sb: self.sb,
         }
     }
 

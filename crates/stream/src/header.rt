@@ -29,7 +29,7 @@ fn word_at(head: [u8; 112], at: usize) -> u16
 }
 
 // 32 bits.
-fn long(low: u16, high: u16) -> u32
+pub fn long(low: u16, high: u16) -> u32
     ensures { λ r. ⌜ r ≡ longOf low high ⌝ }
 {
     low as u32 + 65536 * (high as u32)

@@ -49,13 +49,18 @@ pub fn print_ending(ending: Ending) {
 }
 
 // The check number with one number more: 31 h + x modulo 2^32.
-fn next_check(h: u32, x: u16) -> u32 {
+fn next_check(h: u32, x: u32) -> u32 {
     ((31 * h as u64 + x as u64) % 4294967296) as u32
 }
 
-// The same with a byte.
-fn next_check_byte(h: u32, x: u8) -> u32 {
-    next_check(h, x as u16)
+// A word as a number.
+fn long(x: u16) -> u32 {
+    x as u32
+}
+
+// A byte as a number.
+fn long_byte(x: u8) -> u32 {
+    x as u32
 }
 
 // The check number of all words.
@@ -63,7 +68,7 @@ fn check(memory: &[u16]) -> u32 {
     let mut h = 0;
     let mut i = 0;
     while i < memory.len() {
-        h = next_check(h, memory[i]);
+        h = next_check(h, long(memory[i]));
         i += 1;
     }
     h
@@ -74,10 +79,31 @@ fn check_bytes(s: &[u8]) -> u32 {
     let mut h = 0;
     let mut i = 0;
     while i < s.len() {
-        h = next_check_byte(h, s[i]);
+        h = next_check(h, long_byte(s[i]));
         i += 1;
     }
     h
+}
+
+// The check number of all numbers.
+fn check_longs(s: &[u32]) -> u32 {
+    let mut h = 0;
+    let mut i = 0;
+    while i < s.len() {
+        h = next_check(h, s[i]);
+        i += 1;
+    }
+    h
+}
+
+// A space and the check number of bytes.
+pub fn print_bytes_check(s: &[u8]) {
+    print_field(check_bytes(s) as u64);
+}
+
+// A space and the check number of numbers.
+pub fn print_longs_check(s: &[u32]) {
+    print_field(check_longs(s) as u64);
 }
 
 // A slot: DO's number and passes left.
@@ -122,12 +148,17 @@ fn print_core(core: Core, status: u16) {
     print_registers(w);
 }
 
-// The rest of a line after its ending: steps, the state, the check number of memory.
-pub fn print_rest(steps: u64, state: State, memory: &[u16]) {
+// The state, and the check number of memory.
+pub fn print_state(state: State, memory: &[u16]) {
     let core = state.core;
-    print_field(steps);
     print_core(core, state.status());
     print_field(check(memory) as u64);
+}
+
+// The rest of a line after its ending: steps, the state, the check number of memory.
+pub fn print_rest(steps: u64, state: State, memory: &[u16]) {
+    print_field(steps);
+    print_state(state, memory);
     print_text(b"\n");
 }
 
@@ -140,6 +171,6 @@ pub fn print_filled(verb: &[u8], answer: Answer, slice: &[u8]) {
         print_number(answer.number() as u64);
     }
     print_field(answer.bytes() as u64);
-    print_field(check_bytes(slice) as u64);
+    print_bytes_check(slice);
     print_text(b"\n");
 }

@@ -53,7 +53,11 @@ pub enum NoCase {
     TooLarge,
 }
 
-fn long_at(bytes: &[u8], at: usize) -> u32 {
+/// The next of a stream, or why none came.
+pub type Next<T> = io::Result<Result<T, NoCase>>;
+
+/// Four bytes, low byte first.
+pub fn long_at(bytes: &[u8], at: usize) -> u32 {
     u32::from(word_at(bytes, at)) | u32::from(word_at(bytes, at + 2)) << 16
 }
 
@@ -110,8 +114,41 @@ fn take(input: &mut impl Read, length: usize) -> io::Result<Vec<u8>> {
     Ok(bytes)
 }
 
+/// So many bytes, or `Short`.
+pub fn take_whole(input: &mut impl Read, length: usize) -> Next<Vec<u8>> {
+    let bytes = take(input, length)?;
+    let is_whole = bytes.len() == length;
+    Ok(if is_whole {
+        Ok(bytes)
+    } else {
+        Err(NoCase::Short)
+    })
+}
+
+/// The words of bytes, two each.
+pub fn words_of(bytes: &[u8]) -> Vec<u16> {
+    bytes.chunks_exact(2).map(|two| word_at(two, 0)).collect()
+}
+
+fn what_of(header: &[u8]) -> What {
+    match header[HEADER - 1] {
+        1 => What::Load,
+        2 => What::Write,
+        _ => What::Run,
+    }
+}
+
 /// The next case. Sizes are judged as soon as the header is there.
-pub fn next_case(input: &mut impl Read) -> io::Result<Result<Case, NoCase>> {
+pub fn next_case(input: &mut impl Read) -> Next<Case> {
+    next_with(input, what_of)
+}
+
+/// The next case as a run: its budget and its `what` are not looked at.
+pub fn next_run(input: &mut impl Read) -> Next<Case> {
+    next_with(input, |_| What::Run)
+}
+
+fn next_with(input: &mut impl Read, what_of: fn(&[u8]) -> What) -> Next<Case> {
     let header = take(input, HEADER)?;
     if header.is_empty() {
         return Ok(Err(NoCase::End));
@@ -119,30 +156,18 @@ pub fn next_case(input: &mut impl Read) -> io::Result<Result<Case, NoCase>> {
     if header.len() < HEADER {
         return Ok(Err(NoCase::Short));
     }
-    let (bytes, words, budget) = (
-        long_at(&header, 0),
-        long_at(&header, 4),
-        long_at(&header, 8),
-    );
-    let what = match header[111] {
-        1 => What::Load,
-        2 => What::Write,
-        _ => What::Run,
-    };
+    let (what, budget) = (what_of(&header), long_at(&header, 8));
+    let (bytes, words) = (long_at(&header, 0), long_at(&header, 4));
     let lent_too_much = what != What::Run && budget > MOST_BYTES;
     if bytes > MOST_BYTES || words > MOST_WORDS || lent_too_much {
         return Ok(Err(NoCase::TooLarge));
     }
-    let file = take(input, bytes as usize)?;
-    let lent = take(input, 2 * words as usize)?;
-    if file.len() < bytes as usize || lent.len() < 2 * words as usize {
-        return Ok(Err(NoCase::Short));
-    }
-    let memory = lent.chunks_exact(2).map(|two| word_at(two, 0)).collect();
-    Ok(Ok(Case {
+    let length = bytes as usize;
+    let body = take_whole(input, length + 2 * words as usize)?;
+    Ok(body.map(|body| Case {
         what,
-        file,
-        memory,
+        file: body[..length].to_vec(),
+        memory: words_of(&body[length..]),
         budget,
         settings: settings_of(&header),
         state: state_of(&header),
@@ -173,6 +198,11 @@ fn run_line(outcome: &Outcome, memory: &[u16]) -> String {
 /// The line of a run or a step: its first field, the steps, the state and the
 /// memory's check.
 pub fn state_line(first: &impl Display, steps: u32, state: &State, memory: &[u16]) -> String {
+    format!("{first} {steps} {}", state_fields(state, memory))
+}
+
+/// The fields of a state, A first, and the memory's check.
+pub fn state_fields(state: &State, memory: &[u16]) -> String {
     let State {
         w,
         accumulators: [a, b],
@@ -181,7 +211,7 @@ pub fn state_line(first: &impl Display, steps: u32, state: &State, memory: &[u16
         ..
     } = state;
     let mut line = format!(
-        "{first} {steps} {a} {b} {:04X} {} {} {:04X} {}",
+        "{a} {b} {:04X} {} {} {:04X} {}",
         status_word(state),
         flow.pc,
         flow.repeat,
@@ -198,9 +228,14 @@ pub fn state_line(first: &impl Display, steps: u32, state: &State, memory: &[u16
     line
 }
 
-/// A load or write with R lent bytes, byte i holding i mod 251.
-fn lent_line(word: &str, lent: u32, call: impl FnOnce(&mut [u8]) -> Result<usize, u8>) -> String {
-    let mut out: Vec<u8> = (0..lent).map(|i| (i % 251) as u8).collect();
+/// What item i of a lent slice holds before a call: i mod 251.
+pub fn lent(length: u32) -> impl Iterator<Item = u8> {
+    (0..length).map(|i| (i % 251) as u8)
+}
+
+/// A load or write with R lent bytes.
+fn lent_line(word: &str, room: u32, call: impl FnOnce(&mut [u8]) -> Result<usize, u8>) -> String {
+    let mut out: Vec<u8> = lent(room).collect();
     let answer = match call(&mut out) {
         Ok(bytes) => format!("{word} {bytes}"),
         Err(number) => format!("refused{number} 0"),
@@ -208,11 +243,21 @@ fn lent_line(word: &str, lent: u32, call: impl FnOnce(&mut [u8]) -> Result<usize
     format!("{answer} {}", check(out.iter().map(|&x| u32::from(x))))
 }
 
-/// Print the lines of a whole stream.
-pub fn print_lines(mut input: impl Read, mut output: impl Write) -> io::Result<()> {
+/// Print the lines of a whole stream of cases.
+pub fn print_lines(input: impl Read, output: impl Write) -> io::Result<()> {
+    print_each(input, output, next_case, line)
+}
+
+/// Print a line for each of a stream, up to its end or to what breaks it off.
+pub fn print_each<T, R: Read>(
+    mut input: R,
+    mut output: impl Write,
+    next: fn(&mut R) -> Next<T>,
+    line: fn(&T) -> String,
+) -> io::Result<()> {
     loop {
-        match next_case(&mut input)? {
-            Ok(case) => writeln!(output, "{}", line(&case))?,
+        match next(&mut input)? {
+            Ok(one) => writeln!(output, "{}", line(&one))?,
             Err(NoCase::End) => break,
             Err(NoCase::Short) => {
                 writeln!(output, "short")?;

@@ -38,3 +38,10 @@ pub fn seed_and_count(seed: &str, count: &str) -> Result<(u64, u16), String> {
     let count = count.parse().map_err(|_| "COUNT is not 0..65,535")?;
     Ok((seed, count))
 }
+
+/// The parts of a stored stream, a line each with the name and its length.
+pub fn part_lines<T>(parts: Vec<(&'static str, Vec<T>)>) -> Vec<u8> {
+    let line = |(name, part): (&str, Vec<T>)| format!("{name} {}\n", part.len());
+    let lines: String = parts.into_iter().map(line).collect();
+    lines.into_bytes()
+}

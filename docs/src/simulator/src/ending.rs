@@ -29,6 +29,18 @@ pub enum Ending {
     Refused(u8),
 }
 
+impl Ending {
+    /// The code of a bag's ending; a refusal has none.
+    pub fn code(self) -> Option<u8> {
+        match self {
+            Ending::Done => Some(0x00),
+            Ending::Spent => Some(0x10),
+            Ending::Trap(trap) => Some(0x20 + trap.number()),
+            Ending::Refused(_) => None,
+        }
+    }
+}
+
 impl fmt::Display for Ending {
     fn fmt(&self, f: &mut fmt::Formatter) -> fmt::Result {
         match self {

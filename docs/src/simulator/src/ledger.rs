@@ -87,13 +87,35 @@ struct Ledger<'a> {
     stores: Vec<ListedStore>,
 }
 
-fn beginning(state: &State) -> LedgerState {
-    LedgerState {
-        w: state.w,
-        accumulators: state.accumulators.map(i128::from),
-        overflow: state.overflow,
-        mode: state.mode,
-        flow: state.flow,
+impl LedgerState {
+    /// The core of an engine's state.
+    pub fn of(state: &State) -> LedgerState {
+        LedgerState {
+            w: state.w,
+            accumulators: state.accumulators.map(i128::from),
+            overflow: state.overflow,
+            mode: state.mode,
+            flow: state.flow,
+        }
+    }
+
+    /// To start again, as the engine's state does.
+    pub fn restart(&self) -> LedgerState {
+        LedgerState {
+            flow: Flow::reset(),
+            ..*self
+        }
+    }
+}
+
+impl ListedStore {
+    /// What stands at the store's place, read as signed.
+    pub fn standing(&self, w: &[u16; 14], memory: &[u16]) -> i128 {
+        let word = match self.place {
+            Place::Register(register) => w[usize::from(register)],
+            Place::Memory(index) => memory[index.0],
+        };
+        exact::factor(word, Reading::Signed)
     }
 }
 
@@ -106,22 +128,32 @@ pub fn ledger_run(
     memory: &[u16],
     budget: u32,
 ) -> LedgerOutcome {
+    let core = LedgerState::of(state);
+    match accept(file, settings, state, memory.len()) {
+        Ok(operations) => ledger_operations(&operations, settings, &core, memory, budget),
+        Err(number) => LedgerOutcome {
+            ending: LedgerEnding::AsRun(Ending::Refused(number)),
+            state: core,
+            memory: memory.to_vec(),
+            steps: 0,
+            stores: Vec::new(),
+        },
+    }
+}
+
+/// The ledger's run of accepted operations from a core of its own and a copy of
+/// the memory.
+pub fn ledger_operations(
+    operations: &[Operation],
+    settings: &Settings,
+    core: &LedgerState,
+    memory: &[u16],
+    budget: u32,
+) -> LedgerOutcome {
     let mut copy = memory.to_vec();
-    let operations = match accept(file, settings, state, memory.len()) {
-        Ok(operations) => operations,
-        Err(number) => {
-            return LedgerOutcome {
-                ending: LedgerEnding::AsRun(Ending::Refused(number)),
-                state: beginning(state),
-                memory: copy,
-                steps: 0,
-                stores: Vec::new(),
-            }
-        }
-    };
     let mut ledger = Ledger {
-        state: beginning(state),
-        operations: &operations,
+        state: *core,
+        operations,
         settings,
         memory: Memory::new(&mut copy, settings.x_words),
         steps: 0,

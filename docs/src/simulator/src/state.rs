@@ -33,6 +33,14 @@ impl State {
         }
     }
 
+    /// To start again: pc 0, no loop, repeat left 0; everything else is kept.
+    pub fn restart(&self) -> State {
+        State {
+            flow: Flow::reset(),
+            ..*self
+        }
+    }
+
     /// Whether refusal 7 is not given. Flags are not asked about.
     pub fn is_accepted(&self, operations: &[Operation]) -> bool {
         let in_40_bits = |value: &i64| (WIDE.0..=WIDE.1).contains(value);

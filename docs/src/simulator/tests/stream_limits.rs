@@ -176,11 +176,7 @@ fn any_bytes_are_a_stream() {
     let mut random = simulator::generate::random::Random::new(5);
     let base = bytes_of(&example());
     for _ in 0..20_000 {
-        let mut stream = base.clone();
-        for _ in 0..random.range(1, 6) {
-            let at = random.below(stream.len());
-            stream[at] = random.word() as u8;
-        }
+        let mut stream = altered(&base, &mut random);
         // Budgets stay small, so that no run is long.
         stream[9..12].fill(0);
         let lines = printed(&stream);

@@ -1,6 +1,9 @@
 -- `call::run` meets its contract. Assumes nothing.
 use lib.ListN.{length}
+use native.Mathlib.Omega.{arith}
 use mathlib.Core.Path.{_≡_, sym, _∙_}
+use Rattle.state.specs.Typed.{AreWords}
+use Rattle.state.proofs.Typing.{typed-state}
 use Rattle.machine.specs.Single.{callRefusal}
 use Rattle.machine.proofs.Calls.{call-file, call-state}
 use Rattle.engine.proofs.Calls.{call-refused, call-run}
@@ -26,8 +29,10 @@ returns-2 c =
     let entry = c .before .before .before .before .before .before .before .before in
     let none : callRefusal (entry .args .file .now) (entry .args .settings) (entry .args .state) (length (entry .args .memory .now)) ≡ 0 =
     sym (c .before .before .before .before .before .refusal .ensures) ∙ c .before .before .before .before .if1 .left in
-    let long : length (entry .args .state .core .w) ≡ 14 = search (needs, entry .good .1 .1 .0) in
-    call-run (entry .args .file .now) (entry .args .settings) (entry .args .state) (entry .args .memory .now) (entry .args .budget) none long _ _
+    let typed = typed-state (entry .args .state) _ (entry .good .1 .1 .0) in
+    let ram : AreWords (entry .args .memory .now) =
+    λ i. omega (arith, c .before .before .before .before .before .before .slice-known .given i) in
+    call-run (entry .args .file .now) (entry .args .settings) (entry .args .state) (entry .args .memory .now) (entry .args .budget) none typed ram _ _
     (c .before .before .run-accepted .ensures)
 
 pub run-spec : {M : Type 1} → statement M

@@ -1,15 +1,17 @@
 -- `run::run_accepted` meets its contract. The invariant: the run from the start goes on from the pieces. Assumes nothing.
-use mathlib.Core.Path.{_≡_, sym, _∙_, subst}
-use Prim.Native.Nat.{_-_, _<_}
+use mathlib.Core.Path.{_≡_, refl, sym, _∙_, subst}
+use Prim.Native.Nat.{_-_}
 use lib.ListN.{length}
 use native.Mathlib.Omega.{arith}
 use borrow.Author.Tests.{not-true, not-false}
 use Rattle.program.specs.File.{programOf}
-use Rattle.program.proofs.Accepted.{accepted-blocks, program-length}
-use Rattle.program.proofs.Places.{count-range}
+use Rattle.program.proofs.Accepted.{accepted-blocks, program-length, program-placed}
+use Rattle.state.specs.Typed.{AreWords}
+use Rattle.state.proofs.Typing.{typed-state}
 use Rattle.state.specs.declared.state.State.{State}
 use Rattle.effects.specs.Lent.{stateOf}
-use Rattle.machine.proofs.Standing.{Standing, accepted-standing, standing-ready}
+use Rattle.machine.proofs.Stands.{accepted-stands, stands-ready}
+use Rattle.engine.proofs.Fits.{Fit, file-listed}
 use Rattle.engine.proofs.Along.{Along, begins, from-given, ends-done, ends-spent, at-operation, ends-over, ends-last, goes-on}
 use Rattle.engine.proofs.run.run_accepted.Statement.{statement}
 use Rattle.engine.proofs.run.run_accepted.Tie as tie
@@ -30,13 +32,15 @@ loop-holds c =
     let entry = c .before .before .before .before .before .before .before .before .before .before in
     let file = entry .args .file .now in
     let p = programOf file in
-    let some : 0 < length p = rw (program-length file (entry .pre .0)) (count-range file (accepted-blocks file (entry .pre .0)) .0) in
-    let standing : Standing (length p) (entry .args .state .core) = accepted-standing p (entry .args .state) some (entry .pre .1) in
+    let typed = typed-state (entry .args .state) _ (entry .good .1 .1 .0) in
+    let ram : AreWords (entry .args .memory .now) = λ i. omega (arith, c .before .before .before .before .before .before .before .before .slice-known .given i) in
+    let fit : Fit p (length (entry .args .memory .now)) (record { state = entry .args .state; memory = entry .args .memory .now }) =
+    record { stands = accepted-stands p (entry .args .state) typed (entry .pre .1); ram = ram; long = refl } in
     begins p (entry .args .settings) (entry .args .budget) _ (entry .args .memory .now)
-    (subst (λ (z : State). Standing (length p) (z .core)) (sym (c .scalars-of .ensures)) standing)
+    (subst (λ (z : State). Fit p (length (entry .args .memory .now)) (record { state = z; memory = entry .args .memory .now })) (sym (c .scalars-of .ensures)) fit)
 
 same-length : tie.Need-same-length Inv-loop μ-loop
-same-length c = c .before .before .loop .inv .long
+same-length c = c .before .before .loop .inv .fit .long
 
 returns : tie.Need-returns Inv-loop μ-loop
 returns c =
@@ -48,7 +52,7 @@ returns c =
     rw (c .ended .ensures) (from-given (programOf file) (entry .args .settings) (entry .args .budget) (entry .args .memory .now) (at-loop .before .scalars-of .ensures) (ends-done (at-loop .loop .inv) (c .before .if1 .taken ∙ count)))
 
 same-length-2 : tie.Need-same-length-2 Inv-loop μ-loop
-same-length-2 c = c .before .before .before .loop .inv .long
+same-length-2 c = c .before .before .before .loop .inv .fit .long
 
 returns-2 : tie.Need-returns-2 Inv-loop μ-loop
 returns-2 c =
@@ -68,13 +72,13 @@ step-requires c κs =
     let count : at-loop .before .before .before .before .before .before .before .before .operation-count .result ≡ length (programOf file) =
     at-loop .before .before .before .before .before .before .before .before .operation-count .ensures ∙ sym (program-length file (entry .pre .0)) in
     let more : (at-loop .loop .s .pc ≡ length (programOf file) → ⊥) = λ e. c .before .before .before .before .before .before .if1 .left (e ∙ sym count) in
-    let standing = at-loop .loop .inv .standing in
-    let ready = standing-ready (length (programOf file)) _ standing (at-operation (at-loop .loop .inv) more) in
+    let standing = at-loop .loop .inv .fit .stands in
+    let ready = stands-ready (programOf file) _ standing (at-operation (at-loop .loop .inv) more) in
     (entry .pre .0, (rw (program-length file (entry .pre .0)) at ready, (standing .a, (standing .b, at-loop .before .before .reversals .ensures))))
 
 same-length-3 : tie.Need-same-length-3 Inv-loop μ-loop
 same-length-3 c =
-    c .before .before .before .before .before .before .step .kept .1 .1 .1 .1 .1 .1 .0 ∙ c .before .before .before .before .before .before .before .before .before .before .before .before .before .before .loop .inv .long
+    c .before .before .before .before .before .before .step .kept .1 .1 .1 .1 .1 .1 .0 ∙ c .before .before .before .before .before .before .before .before .before .before .before .before .before .before .loop .inv .fit .long
 
 returns-3 : tie.Need-returns-3 Inv-loop μ-loop
 returns-3 c =
@@ -96,7 +100,7 @@ add-steps c =
 
 same-length-4 : tie.Need-same-length-4 Inv-loop μ-loop
 same-length-4 c =
-    c .before .before .before .before .before .before .before .step .kept .1 .1 .1 .1 .1 .1 .0 ∙ c .before .before .before .before .before .before .before .before .before .before .before .before .before .before .before .loop .inv .long
+    c .before .before .before .before .before .before .before .step .kept .1 .1 .1 .1 .1 .1 .0 ∙ c .before .before .before .before .before .before .before .before .before .before .before .before .before .before .before .loop .inv .fit .long
 
 returns-4 : tie.Need-returns-4 Inv-loop μ-loop
 returns-4 c =
@@ -124,7 +128,7 @@ loop-again c =
     let at-step = c .before .before .before .before .before .before in
     let more : (at-loop .loop .s .pc ≡ length (programOf file) → ⊥) = λ e. c .before .before .before .before .before .before .before .before .before .before .before .before .before .if1 .left (e ∙ sym count) in
     let left = c .before .before .before .before .before .before .before .before .before .before .before .before .if2 .left in
-    goes-on (at-loop .loop .inv) more left _ (at-step .step .ensures) (not-false _ (c .before .if3 .left)) (c .if4 .left) (at-step .step .kept .1 .1 .1 .1 .1 .1 .0)
+    goes-on (at-loop .loop .inv) more left _ (at-step .step .ensures) (program-placed file (entry .pre .0)) (file-listed file (entry .pre .0)) (not-false _ (c .before .if3 .left)) (c .if4 .left)
 
 pub run-accepted-spec : {M : Type 1} → statement M
 run-accepted-spec =

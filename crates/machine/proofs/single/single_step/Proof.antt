@@ -1,6 +1,6 @@
 -- `single::single_step` meets its contract: refused, done, or executed. Assumes nothing.
 use mathlib.Core.Path.{_≡_, sym, _∙_}
-use Prim.Native.Nat.{_-_, _≤_, _<_}
+use Prim.Native.Nat.{_≤_}
 use native.Mathlib.Omega.{arith}
 use lib.ListN.{length}
 use denote.Ref.{now}
@@ -8,8 +8,7 @@ use Rattle.program.specs.File.{operationCount, programOf}
 use Rattle.program.proofs.Accepted.{accepted-blocks, program-length}
 use Rattle.machine.specs.Single.{callRefusal}
 use Rattle.machine.proofs.Calls.{call-file, call-state, call-refused, call-done, call-executed}
-use Rattle.machine.proofs.Standing.{accepted-standing}
-use Rattle.program.proofs.Places.{count-range}
+use Rattle.state.proofs.Parts.{accepted-parts}
 use borrow.Author.Needs.{needs}
 use Rattle.machine.proofs.single.single_step.Statement.{statement}
 use Rattle.machine.proofs.single.single_step.Tie as tie
@@ -43,8 +42,7 @@ execute-requires c κs =
     let state = call-state (entry .args .file .now) (entry .args .settings) (entry .args .state) _ free in
     let file = entry .args .file .now in
     let count : length (programOf file) ≡ operationCount file = program-length file accepted in
-    let some : 0 < length (programOf file) = rw (count) (count-range file (accepted-blocks file accepted) .0) in
-    let at : entry .args .state .core .pc ≤ operationCount file = rw (count) at (accepted-standing (programOf file) (entry .args .state) some state .at) in
+    let at : entry .args .state .core .pc ≤ operationCount file = rw (count) at (accepted-parts (programOf file) (entry .args .state) state .at) in
     (accepted, (state, omega (arith, at, c .before .if2 .left, at-operation-count .operation-count .ensures)))
 
 returns-3 : tie.Need-returns-3

@@ -3,7 +3,7 @@
 
 use std::process::ExitCode;
 
-use simulator::command::write_output;
+use simulator::command::{part_lines, write_output};
 use simulator::generate::runs::{parts, stream};
 
 fn main() -> ExitCode {
@@ -13,14 +13,7 @@ fn main() -> ExitCode {
 fn output(arguments: &[&str]) -> Result<Vec<u8>, String> {
     match arguments {
         ["stream"] => Ok(stream()),
-        ["parts"] => Ok(part_lines().into_bytes()),
+        ["parts"] => Ok(part_lines(parts())),
         _ => Err("usage: runs stream | parts".to_string()),
     }
-}
-
-fn part_lines() -> String {
-    let lines = parts().into_iter();
-    lines
-        .map(|(name, cases)| format!("{name} {}\n", cases.len()))
-        .collect()
 }

@@ -78,15 +78,20 @@ impl Layout {
     /// Memory words: wild, small, or in between, so that some runs leave the
     /// limits and some do not.
     pub fn memory(&self, random: &mut Random) -> Vec<u16> {
-        let style = random.below(4);
-        let word = |random: &mut Random| match style {
-            0 => random.word(),
-            1 => random.range(-200, 200) as u16,
-            2 => random.telling_word(),
-            _ => random.range(-5_000, 5_000) as u16,
-        };
-        (0..self.words).map(|_| word(random)).collect()
+        styled_words(random, self.words)
     }
+}
+
+/// So many words of one style.
+pub fn styled_words(random: &mut Random, count: usize) -> Vec<u16> {
+    let style = random.below(4);
+    let word = |random: &mut Random| match style {
+        0 => random.word(),
+        1 => random.range(-200, 200) as u16,
+        2 => random.telling_word(),
+        _ => random.range(-5_000, 5_000) as u16,
+    };
+    (0..count).map(|_| word(random)).collect()
 }
 
 /// X's buffer: in the X part for X's own pointers, in the Y part for Y's (whose

@@ -1,5 +1,5 @@
 //! Case streams with the lines that must be printed for them, request streams,
-//! streams of single steps, and the stored stream of runs.
+//! streams of single steps, the stored stream of runs, and services.
 
 pub mod bench;
 pub mod blocks;
@@ -16,6 +16,7 @@ pub mod program;
 pub mod random;
 pub mod requests;
 pub mod runs;
+pub mod services;
 pub mod simple;
 pub mod special;
 pub mod speed;

@@ -41,7 +41,7 @@ pub fn state(
 }
 
 /// A 40-bit number: small, at or near a limit, a tie of a store, or any.
-fn accumulator(random: &mut Random) -> i64 {
+pub fn accumulator(random: &mut Random) -> i64 {
     match random.below(10) {
         0 => 0,
         1 => random.range(-100_000, 100_000),

@@ -2,8 +2,8 @@
 #![allow(dead_code)]
 
 use simulator::cases::{Case, What};
-use simulator::ledger::{LedgerEnding, LedgerOutcome, ListedStore};
-use simulator::operand::Place;
+use simulator::generate::random::Random;
+use simulator::ledger::{LedgerEnding, LedgerOutcome, LedgerState, ListedStore};
 use simulator::{ledger, Outcome, Settings, State};
 
 pub type Op = [u8; 8];
@@ -128,6 +128,16 @@ pub fn stored_speed(name: &str) -> Vec<u8> {
     stored(&format!("docs/speed/{name}.case"))
 }
 
+/// A stream with a few of its bytes changed.
+pub fn altered(stream: &[u8], random: &mut Random) -> Vec<u8> {
+    let mut altered = stream.to_vec();
+    for _ in 0..random.range(1, 6) {
+        let at = random.below(altered.len());
+        altered[at] = random.word() as u8;
+    }
+    altered
+}
+
 /// The number of cases in each part of a stream.
 pub fn lengths<T>(parts: Vec<(&'static str, Vec<T>)>) -> Vec<(&'static str, usize)> {
     let length = |(name, cases): (&'static str, Vec<T>)| (name, cases.len());
@@ -157,6 +167,11 @@ pub fn stored_assembly(name: &str) -> Vec<u8> {
 /// The stored stream of runs or its lines.
 pub fn stored_case_files(name: &str) -> Vec<u8> {
     stored(&format!("crates/cases/{name}"))
+}
+
+/// The stored stream of services or its lines.
+pub fn stored_bags(name: &str) -> Vec<u8> {
+    stored(&format!("crates/bags/{name}"))
 }
 
 /// The stored input or output of tally.
@@ -363,12 +378,7 @@ pub fn ledger_of(case: &Case) -> LedgerOutcome {
 
 /// Everything the ledger has is as the engine's.
 pub fn end_alike(outcome: &Outcome, memory: &[u16], ledger: &LedgerOutcome) {
-    let (state, exact) = (&outcome.state, &ledger.state);
-    assert_eq!(state.accumulators.map(i128::from), exact.accumulators);
-    assert_eq!(state.w, exact.w);
-    assert_eq!(state.flow, exact.flow);
-    assert_eq!(state.mode, exact.mode);
-    assert_eq!(state.overflow, exact.overflow);
+    assert_eq!(LedgerState::of(&outcome.state), ledger.state);
     assert_eq!(memory, ledger.memory);
     assert_eq!(outcome.steps, ledger.steps);
     assert_eq!(LedgerEnding::AsRun(outcome.ending), ledger.ending);
@@ -378,9 +388,5 @@ pub fn end_alike(outcome: &Outcome, memory: &[u16], ledger: &LedgerOutcome) {
 pub fn engine_word(case: &Case, store: &ListedStore) -> i128 {
     let (outcome, memory) = case.run(store.step);
     assert_eq!(outcome.steps, store.step);
-    let word = match store.place {
-        Place::Register(register) => outcome.state.w[usize::from(register)],
-        Place::Memory(index) => memory[index.0],
-    };
-    i128::from(word as i16)
+    store.standing(&outcome.state.w, &memory)
 }

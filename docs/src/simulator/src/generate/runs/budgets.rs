@@ -22,7 +22,7 @@ fn every_budget(bench: &Bench) -> Vec<Bench> {
 }
 
 /// Programs that end done, or by each of the traps.
-fn programs() -> Vec<Bench> {
+pub fn programs() -> Vec<Bench> {
     let mut all = done_programs();
     all.extend(blocked_programs());
     all.extend(raised_programs());

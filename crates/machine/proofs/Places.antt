@@ -1,4 +1,5 @@
--- What the work of every listed operation has in common: as many registers as before, and a store to a place of the machine. Assumes nothing.
+-- What the work of every listed operation has in common: as many registers as before, a store to a place of the machine, words of 16 bits. Assumes
+-- nothing.
 use Prim.Native.Nat.{ℕ, zero, suc, _<_}
 use mathlib.Core.Bool.{true}
 use mathlib.Core.Path.{_≡_, refl, _∙_}
@@ -29,6 +30,7 @@ use Rattle.operations.specs.declared.operation.Operation.the-variants.{SacR, Li
 use Rattle.operations.specs.declared.operation.Operation.the-variants.{ClearSaturation}
 use Rattle.program.proofs.Answers.{then-second}
 use Rattle.state.specs.State.{register, accumulatorOf}
+use Rattle.state.specs.Typed.{AreWords}
 use Rattle.state.specs.declared.settings.Settings.{Settings}
 use Rattle.state.specs.declared.state.Core.{Core}
 use Rattle.effects.specs.Access.{operandAccess, backAccess, changed}
@@ -39,11 +41,13 @@ use Rattle.effects.specs.declared.pointer.Purpose.{Purpose}
 use Rattle.effects.specs.declared.pointer.Purpose.the-variants.{Read, Store as Storing}
 use Rattle.effects.specs.declared.pointer.Change.{Change}
 use Rattle.effects.specs.declared.pointer.Change.the-variants.{None as NoChange, To}
+use Rattle.effects.specs.declared.access.Space.the-variants.{X, Y}
 use Rattle.effects.specs.declared.access.Place.{Place}
 use Rattle.effects.specs.declared.access.Place.the-variants.{Nowhere, Register, Memory}
 use Rattle.effects.specs.declared.effect.Value.{Value}
 use Rattle.effects.specs.declared.mac.Accesses.{Accesses}
 use Rattle.machine.specs.Step.{operationAt}
+use Rattle.machine.proofs.Words.{ValueWord, changed-words, operand-change, prefetch-change, back-change, read-word, arrived-words, scaled-word, plain-word}
 
 -- a register, or one of so many words of memory
 abbrev pub Fits : ℕ → Place → Type 0
@@ -89,73 +93,117 @@ registers-long k a w memory =
 
 -- ---- every kind
 
+-- the work of a listed operation
 module _ (s : Settings) (m : Mode) (c : Core) (memory : List ℕ) where
-  -- a work leaves as many registers, and its store has a place
-  abbrev pub Placed : Work → Type 0
-  Placed work = (length (work .w) ≡ length (c .w)) × Fits (length memory) (work .effect .place)
+  -- where registers and memory are words: the registers stay words, and what is stored is one
+  abbrev Worded : Work → Type 0
+  Worded work = AreWords (c .w) → AreWords memory → AreWords (work .w) × ValueWord (work .effect .value)
 
-  -- with a trap it leaves the registers and stores nothing
-  unless-placed : (trap : ℕ) (work : Work) → (trap ≡ 0 → Placed work) → Placed (unlessTrap (c .w) trap work)
-  unless-placed trap work h =
-      by-test Placed (eqb trap 0) {x = work} {y = blocked (c .w) trap} (λ e. h (eqb-true trap 0 e)) (λ e. (refl, tt))
+  -- as many registers as before, a place of the machine, words
+  pub record Fitted (work : Work) : Type 0 where
+    pub long : length (work .w) ≡ length (c .w)
+    pub place : Fits (length memory) (work .effect .place)
+    pub words : Worded work
 
-  mac-placed : (k : MacClass) → Placed (macWork s m k c memory)
-  unfolding macWork macAccesses
-  mac-placed k =
-      let a = macAccesses s k (c .w) (length memory) in
-      unless-placed (macTrap a) _
+  -- registers that stay, and no store
+  none-fitted : (trap : ℕ) → Fitted (blocked (c .w) trap)
+  none-fitted trap = record { long = refl; place = tt; words = λ h k. (h, plain-word 0 (lit< tt)) }
+
+  -- with a trap that is all
+  unless-fitted : (trap : ℕ) (work : Work) → (trap ≡ 0 → Fitted work) → Fitted (unlessTrap (c .w) trap work)
+  unless-fitted trap work h =
+      by-test Fitted (eqb trap 0) {x = work} {y = blocked (c .w) trap} (λ e. h (eqb-true trap 0 e)) (λ e. none-fitted trap)
+
+  mac-fitted : (q : MacClass) → Fitted (macWork s m q c memory)
+  unfolding macWork macAccesses macRegisters
+  mac-fitted q =
+      let a = macAccesses s q (c .w) (length memory) in
+      unless-fitted (macTrap a) _
       (λ e.
       let free : a .back .trap ≡ 0 = then-second (a .y .trap) _ (then-second (a .x .trap) _ e) in
-      (registers-long k a (c .w) memory, back-fits s (k .back) (c .w) (length memory) free))
+      record {
+        long = registers-long q a (c .w) memory;
+        place = back-fits s (q .back) (c .w) (length memory) free;
+        words =
+            λ h k. (
+              arrived-words q _ _ _ (read-word (a .x .place) (c .w) memory h k) (read-word (a .y .place) (c .w) memory h k)
+                  (changed-words (a .back .change) _ (back-change s (q .back) (c .w) (length memory))
+                  (changed-words (a .y .change) _ (prefetch-change s Y (q .y) (c .w) (length memory))
+                  (changed-words (a .x .change) (c .w) (prefetch-change s X (q .x) (c .w) (length memory)) h))),
+              scaled-word true _,
+            );
+      })
 
-  shift-placed : (t : Target) (n : ℤ) → Placed (shiftWork t n c)
+  shift-fitted : (t : Target) (n : ℤ) → Fitted (shiftWork t n c)
   unfolding shiftWork
-  shift-placed t n = by-test Placed (shiftAllowed n) (λ e. (refl, tt)) (λ e. (refl, tt))
+  shift-fitted t n =
+      by-test Fitted (shiftAllowed n) (λ e. record { long = refl; place = tt; words = λ h k. (h, plain-word 0 (lit< tt)) }) (λ e. none-fitted 3)
 
-  load-placed : (t : Target) (v : ℤ) (b2 : ℕ) (from : Operand) → Placed (loadWork s t v b2 from c memory)
+  -- the registers after an operand's access
+  operand-words : (purpose : Purpose) (o : Operand) → AreWords (c .w) → AreWords (changed (operandAccess s purpose o (c .w) (length memory) .change) (c .w))
+  operand-words purpose o h =
+      changed-words (operandAccess s purpose o (c .w) (length memory) .change) (c .w) (operand-change s purpose o (c .w) (length memory) h) h
+
+  load-fitted : (t : Target) (v : ℤ) (b2 : ℕ) (from : Operand) → Fitted (loadWork s t v b2 from c memory)
   unfolding loadWork
-  load-placed t v b2 from =
+  load-fitted t v b2 from =
       let a = operandAccess s Read from (c .w) (length memory) in
-      unless-placed (a .trap) _ (λ e. (changed-long (a .change) (c .w), tt))
+      unless-fitted (a .trap) _
+      (λ e.
+      record { long = changed-long (a .change) (c .w); place = tt; words = λ h k. (operand-words Read from h, plain-word 0 (lit< tt)) })
 
-  store-placed : (b2 : ℕ) (to : Operand) (v : Value) → isListedOperand b2 to ≡ true → Placed (storeWork s to v c memory)
+  store-fitted : (b2 : ℕ) (to : Operand) (v : Value) → isListedOperand b2 to ≡ true → (AreWords (c .w) → ValueWord v)
+      → Fitted (storeWork s to v c memory)
   unfolding storeWork
-  store-placed b2 to v ok =
+  store-fitted b2 to v ok hv =
       let a = operandAccess s Storing to (c .w) (length memory) in
-      unless-placed (a .trap) _
-      (λ e. (changed-long (a .change) (c .w), operand-fits s Storing b2 to (c .w) (length memory) ok e))
+      unless-fitted (a .trap) _
+      (λ e.
+      record {
+        long = changed-long (a .change) (c .w);
+        place = operand-fits s Storing b2 to (c .w) (length memory) ok e;
+        words = λ h k. (operand-words Storing to h, hv h);
+      })
 
-  move-placed : (to p : ℕ) (post : PostModification) → isRegister to ≡ true → Placed (moveWork s to p post c memory)
+  move-fitted : (to p : ℕ) (post : PostModification) → isRegister to ≡ true → Fitted (moveWork s to p post c memory)
   unfolding moveWork
-  move-placed to p post ok =
+  move-fitted to p post ok =
       let a = operandAccess s Read (Pointed p post) (c .w) (length memory) in
-      unless-placed (a .trap) _ (λ e. (changed-long (a .change) (c .w), ltb-true to 14 ok))
+      unless-fitted (a .trap) _
+      (λ e.
+      record {
+        long = changed-long (a .change) (c .w);
+        place = ltb-true to 14 ok;
+        words = λ h k. (operand-words Read (Pointed p post) h, plain-word _ (read-word (a .place) (c .w) memory h k));
+      })
 
-  loop-placed : Placed (loopWork c)
+  loop-fitted : Fitted (loopWork c)
   unfolding loopWork
-  loop-placed = by-test Placed (ltb (c .loops .depth) 4) (λ e. (refl, tt)) (λ e. (refl, tt))
+  loop-fitted = by-test Fitted (ltb (c .loops .depth) 4) (λ e. none-fitted 0) (λ e. none-fitted 4)
 
-  pub work-placed : (o : Operation) → isListed o ≡ true → Placed (workOf s m o c memory)
+  pub work-fitted : (o : Operation) → isListed o ≡ true → Fitted (workOf s m o c memory)
   unfolding workOf isListed
-  work-placed (MacOperation k) ok = mac-placed k
-  work-placed (AddAccumulators t) ok = (refl, tt)
-  work-placed (Subtract t) ok = (refl, tt)
-  work-placed (Negate t) ok = (refl, tt)
-  work-placed (Shift t r) ok = shift-placed t (signedOf 16 (register (c .w) r))
-  work-placed (Lac t b2 o) ok = load-placed t (pos 0) b2 o
-  work-placed (Add t b2 o) ok = load-placed t (accumulatorOf c t) b2 o
-  work-placed (Sac t b2 o) ok = store-placed b2 o _ ok
-  work-placed (SacR t b2 o) ok = store-placed b2 o _ ok
-  work-placed (Literal r v) ok = (refl, ltb-true r 14 (both (isRegister r) (isWord v) ok .0))
-  work-placed (Load r p post) ok = move-placed r p post (both (isRegister r) (isRegister p) ok .0)
-  work-placed (Store r p post) ok = store-placed 0 (Pointed p post) _ (both (isRegister r) (isRegister p) ok .1)
-  work-placed (Repeat n) ok = (refl, tt)
-  work-placed (RepeatRegister r) ok = (refl, tt)
-  work-placed (Do n last) ok = loop-placed
-  work-placed (DoRegister r last) ok = loop-placed
-  work-placed EndEarly ok = (refl, tt)
-  work-placed (SetMode word) ok = (refl, tt)
-  work-placed ClearSaturation ok = (refl, tt)
+  work-fitted (MacOperation q) ok = mac-fitted q
+  work-fitted (AddAccumulators t) ok = record { long = refl; place = tt; words = λ h k. (h, plain-word 0 (lit< tt)) }
+  work-fitted (Subtract t) ok = record { long = refl; place = tt; words = λ h k. (h, plain-word 0 (lit< tt)) }
+  work-fitted (Negate t) ok = record { long = refl; place = tt; words = λ h k. (h, plain-word 0 (lit< tt)) }
+  work-fitted (Shift t r) ok = shift-fitted t (signedOf 16 (register (c .w) r))
+  work-fitted (Lac t b2 o) ok = load-fitted t (pos 0) b2 o
+  work-fitted (Add t b2 o) ok = load-fitted t (accumulatorOf c t) b2 o
+  work-fitted (Sac t b2 o) ok = store-fitted b2 o _ ok (λ h. scaled-word _ _)
+  work-fitted (SacR t b2 o) ok = store-fitted b2 o _ ok (λ h. scaled-word _ _)
+  work-fitted (Literal r v) ok =
+      let (register, word) = both (isRegister r) (isWord v) ok in
+      record { long = refl; place = ltb-true r 14 register; words = λ h k. (h, plain-word v (ltb-true v 65536 word)) }
+  work-fitted (Load r p post) ok = move-fitted r p post (both (isRegister r) (isRegister p) ok .0)
+  work-fitted (Store r p post) ok = store-fitted 0 (Pointed p post) _ (both (isRegister r) (isRegister p) ok .1) (λ h. plain-word _ (h r))
+  work-fitted (Repeat n) ok = none-fitted 0
+  work-fitted (RepeatRegister r) ok = none-fitted 0
+  work-fitted (Do n last) ok = loop-fitted
+  work-fitted (DoRegister r last) ok = loop-fitted
+  work-fitted EndEarly ok = none-fitted 0
+  work-fitted (SetMode word) ok = none-fitted 0
+  work-fitted ClearSaturation ok = none-fitted 0
 
 -- past a program's end stands end early, which is listed
 pub listed-at : (p : List Operation) → ((i : ℕ) → i < length p → isListed (operationAt p i) ≡ true) → (i : ℕ) → isListed (operationAt p i) ≡ true
