@@ -127,6 +127,11 @@ row-l = (refl, refl)
 
 -- ---- edges
 
+-- with saturation off 2^40 - 2 is kept as -2: O is that of the value kept
+wraps : written 0 B (pos (2 ^ 40 - 2)) ≡ holds (negsuc 1) false true
+unfolding writeOf keptOf hasLeft overflows limitBits saturates modeOf outside nearer lowest highest lowBits remainderOf signedOf
+wraps = refl
+
 -- S stays after a result within the limits, and O is redone
 stays : writeOf (holds (pos 0) true true) (modeOf 0) A (pos 1) ≡ holds (pos 1) false true
 unfolding writeOf keptOf hasLeft overflows limitBits saturates modeOf outside nearer lowest highest

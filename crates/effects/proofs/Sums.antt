@@ -1,5 +1,5 @@
 -- Sums and differences of accumulators and products fit an i64. Assumes nothing.
-use Prim.Native.Nat.{ℕ, _+_, _*_, _%_, _^_, _≤_, _<_}
+use Prim.Native.Nat.{ℕ, _+_, _%_, _^_, _≤_, _<_}
 use native.Mathlib.Nat.{lt-of-lt-of-le}
 use lib.Dec.{lit≤}
 use mathlib.Core.Bool.{true}
@@ -14,7 +14,7 @@ use mir.Facts.{toZ-pos}
 use Rattle.integers.specs.Bits.{lowBits, signedOf}
 use Rattle.integers.proofs.Whole.{whole, size, sum, less, times, scaled, abs-is}
 use Rattle.integers.proofs.Low.{low-size, low-up}
-use Rattle.integers.proofs.Wrapping.{wrapped}
+use Rattle.integers.proofs.Modulo.{wrapped}
 use Rattle.accumulator.specs.Limit.{isAccumulator}
 use Rattle.accumulator.specs.Shift.{shiftAllowed}
 use Rattle.accumulator.specs.declared.mode.Target.{Target}
@@ -54,7 +54,7 @@ wraps-back x y r a b l e =
     let z : ℤ = pos x -ℤ pos y in
     let whole-sum : pos y +ℤ z ≡ pos x = omega (whole, sum (pos y) z, less (pos x) (pos y)) in
     let low : ℕ = lowBits 16 z in
-    let wraps : (y + low) % 2 ^ 16 ≡ x % 2 ^ 16 = wrapped y z ∙ ap (lowBits 16) whole-sum ∙ low-up 16 x in
+    let wraps : (y + low) % 2 ^ 16 ≡ x % 2 ^ 16 = wrapped 16 y z ∙ ap (lowBits 16) whole-sum ∙ low-up 16 x in
     let small : low < 2 ^ 16 = low-size 16 z in
     omega (arith, a, b, l, e, wraps, small)
 

@@ -1,12 +1,12 @@
 -- From clear flags the engine's run is the ledger's, or the ledger leaves the limits and a flag stays set to the end. Assumes nothing.
-use Prim.Native.Nat.{ℕ, zero, suc}
+use Prim.Native.Nat.{ℕ, suc}
 use mathlib.Core.Bool.{true, false, false≢true}
-use mathlib.Core.Path.{_≡_, refl, sym, _∙_}
+use mathlib.Core.Path.{_≡_, refl, sym, ap, _∙_, subst}
 use mathlib.Core.Logic.{_⊎_, inl, inr, ⊎-elim}
-use mathlib.Core.List.{List, [], _∷_}
+use mathlib.Core.List.{List}
 use lib.Dec.{eqb}
 use lib.IntN.{ℤ}
-use Rattle.integers.proofs.Whole.{by-test, same-test, neither}
+use Rattle.integers.proofs.Whole.{by-test, same-test}
 use Rattle.accumulator.specs.Mode.{modeOf}
 use Rattle.accumulator.specs.Limit.{hasLeft, overflows, writeOf}
 use Rattle.accumulator.specs.declared.mode.Mode.{Mode}
@@ -25,13 +25,15 @@ use Rattle.effects.specs.declared.effect.Exact.the-variants.{Keep, Result as Ex
 use Rattle.machine.specs.Write.{trapAfter, settleOf}
 use Rattle.machine.specs.Control.{controlOf, controlled, clears, stateControlled}
 use Rattle.machine.specs.Step.{Step, operationAt, stateAfter, completed, stepped}
-use Rattle.engine.specs.Run.{Stop, Turn, Result, complete, after, run}
+use Rattle.engine.specs.Run.{Stop, Turn, Result, complete, after}
 use Rattle.engine.specs.Run.Stop.{ended, left}
 use Rattle.engine.specs.Run.Turn.{over, last, next}
 use Rattle.engine.specs.Engine.{Engine, turnOf, engineTurn, engineDone, engineFrom}
-use Rattle.engine.specs.Ledger.{Entry, Ledger, exactTrap, keepExact, ledgerTurn, ledgerDone, ledgerFrom}
+use Rattle.engine.specs.Ledger.{Entry, Ledger, exactTrap, keepExact, exactTurn, ledgerDone, exactFrom}
+use Rattle.engine.specs.Ledger.Beyond.{stops}
 use Rattle.engine.specs.Exact.{holdsClear, FlagsClear}
-use Rattle.engine.proofs.Runs.{Keeps, run-keeps}
+use Rattle.engine.proofs.Holds.{holds-none}
+use Rattle.engine.proofs.Runs.{Keeps, run-keeps, run-pairs}
 
 -- ---- what agreement is
 
@@ -126,12 +128,10 @@ settling p o traps m e s memory =
     let r = settleOf traps m e s in
     complete (r .trap) (record { state = stateControlled p (controlOf o) (r .state); memory = memory })
 
--- in a program that holds no clearing operation none clears, end early past its end included
+-- in a program that holds no clearing operation none clears
 clears-none : (p : List Operation) (i : ℕ) → holdsClear p ≡ false → clears (controlOf (operationAt p i)) ≡ false
-unfolding holdsClear controlOf
-clears-none [] i h = refl
-clears-none (o ∷ p) zero h = neither (clears (controlOf o)) (holdsClear p) h .0
-clears-none (o ∷ p) (suc i) h = clears-none p i (neither (clears (controlOf o)) (holdsClear p) h .1)
+unfolding controlOf
+clears-none p i h = holds-none (λ o. clears (controlOf o)) refl p i h
 
 module _ (p : List Operation) (o : Operation) (stays : clears (controlOf o) ≡ false) where
   -- control leaves a flag that is set
@@ -147,7 +147,7 @@ module _ (p : List Operation) (o : Operation) (stays : clears (controlOf o) ≡ 
 
   module _ (traps : ℕ) (m : Mode) where
     settling-follows : (e : Exact) (c : Core) (memory : List ℕ) (l : List Entry)
-        → Follows (settling p o traps m e (cleared c) memory) (keepExact p traps m o e c memory l)
+        → Follows (settling p o traps m e (cleared c) memory) (keepExact stops p traps m o e c memory l)
     unfolding settleOf keepExact
     settling-follows Keep c memory l = rw (controlled-clear c)
     settling-follows (ExactResult t r) c memory l =
@@ -157,7 +157,7 @@ module _ (p : List Operation) (o : Operation) (stays : clears (controlOf o) ≡ 
         by-test Sets (eqb (trapAfter traps m t r) 0) (λ f. set) (λ f. set))
         (λ e.
         rw (trap-inside m traps t r e, write-exact m t r c e, controlled-clear (withAccumulator c t r (overflows r)))
-        (same-test Follows (eqb (exactTrap traps t r) 0) refl refl))
+        (same-test Follows (eqb (exactTrap traps t r) 0) (λ f. refl) (λ f. refl)))
 
     settling-stays : (t : Target) (e : Exact) (s : State) (memory : List ℕ) → SetIn t s → Stays t (settling p o traps m e s memory)
     settling-stays t e s memory h =
@@ -179,15 +179,15 @@ after-agrees k y f g v (next y′) h stuck on = rw h (on y′)
 
 module _ (p : List Operation) (settings : Settings) (none : holdsClear p ≡ false) where
   -- a step from clear flags
-  pub turn-follows : (k : ℕ) (y : Ledger) → Follows (engineTurn p settings (clear y)) (ledgerTurn p settings k y)
-  unfolding engineTurn stepped completed ledgerTurn
+  pub turn-follows : (k : ℕ) (y : Ledger) → Follows (engineTurn p settings (clear y)) (exactTurn stops p settings k y)
+  unfolding engineTurn stepped completed exactTurn
   turn-follows k y =
       let c = y .core in
       let m = modeOf (c .mode) in
       let o = operationAt p (c .pc) in
       let work = workOf settings m o c (y .memory) in
       same-test (λ (r : Step) (u : Turn Ledger). Follows (turnOf r) u) (eqb (work .effect .trap) 0)
-      (settling-follows p o (clears-none p (c .pc) none) (settings .traps) m (work .effect .exact) _ _ _) refl
+      (λ e. settling-follows p o (clears-none p (c .pc) none) (settings .traps) m (work .effect .exact) _ _ _) (λ e. refl)
 
   -- a step from a flag that is set
   turn-stays : (t : Target) (x : Engine) → SetIn t (x .state) → Stays t (engineTurn p settings x)
@@ -213,10 +213,13 @@ module _ (p : List Operation) (settings : Settings) (none : holdsClear p ≡ fal
   run-flags n k x h = either (λ t. run-stays t n k x) h
 
   -- a run from clear flags
-  pub run-agrees : (n k : ℕ) (y : Ledger) → Agree (engineFrom p settings n k (clear y)) (ledgerFrom p settings n k y)
-  unfolding run
-  run-agrees zero k y = refl
-  run-agrees (suc n) k y =
-      same-test Agree (ledgerDone p y) refl
-      (after-agrees k y (engineFrom p settings n (suc k)) (ledgerFrom p settings n (suc k))
-      (engineTurn p settings (clear y)) (ledgerTurn p settings k y) (turn-follows k y) (run-flags n (suc k)) (λ y′. run-agrees n (suc k) y′))
+  pub run-agrees : (n k : ℕ) (y : Ledger) → Agree (engineFrom p settings n k (clear y)) (exactFrom stops p settings n k y)
+  run-agrees n k y =
+      run-pairs (engineDone p) (ledgerDone p) (λ k. engineTurn p settings) (exactTurn stops p settings) (λ x y. x ≡ clear y) Agree
+      (λ x y h. ap (engineDone p) h) (λ k e x y h. ap (λ (z : Engine). record { machine = z; steps = k; stop = ended e }) h)
+      (λ n k x y h on.
+      subst (λ (z : Engine). Agree (after z k (engineFrom p settings n (suc k)) (engineTurn p settings z))
+      (after y k (exactFrom stops p settings n (suc k)) (exactTurn stops p settings k y))) (sym h)
+      (after-agrees k y (engineFrom p settings n (suc k)) (exactFrom stops p settings n (suc k))
+      (engineTurn p settings (clear y)) (exactTurn stops p settings k y) (turn-follows k y) (run-flags n (suc k)) (λ y′. on (clear y′) y′ refl)))
+      n k (clear y) y refl

@@ -1,26 +1,33 @@
 -- What the call for a run leaves, refused or run. Assumes nothing.
 use Prim.Native.Nat.{ℕ, _≤_}
+use mathlib.Core.Bool.{false}
 use mathlib.Core.List.{List}
 use mathlib.Core.Path.{_≡_, refl, sym, ap, _∙_, subst}
 use native.Mathlib.Nat.{zero-add}
 use native.Mathlib.Omega.{arith}
 use lib.ListN.{length}
+use Rattle.integers.specs.Bits.{lowBits, SameModulo, signedOf}
 use Rattle.program.specs.File.{fileRefusal, programOf}
 use Rattle.program.proofs.Accepted.{program-placed}
 use Rattle.state.specs.Typed.{AreWords, Typed}
 use Rattle.state.specs.declared.settings.Settings.{Settings}
 use Rattle.state.specs.declared.state.State.{State}
 use Rattle.machine.specs.Single.{callRefusal}
+use Rattle.machine.proofs.Order.{withSums}
 use Rattle.machine.proofs.Calls.{call-file, call-settings, call-state, if-refused}
 use Rattle.machine.proofs.Stands.{accepted-stands, stands-accepted}
 use Rattle.engine.specs.Run.{Result}
+use Rattle.engine.specs.Run.Stop.{ended}
 use Rattle.engine.specs.Engine.{Engine, engineDone, engineTurn, engineRun}
+use Rattle.engine.specs.Ledger.{onwardRun}
+use Rattle.engine.specs.Wraps.{holdsBarred, isSaturating}
 use Rattle.engine.specs.Call.{resultOf, refused, runOf, Runs}
 use Rattle.engine.specs.declared.ending.Ending.the-variants.{Refused}
 use Rattle.engine.specs.declared.outcome.Outcome.{Outcome}
 use Rattle.engine.proofs.Runs.{run-within}
 use Rattle.engine.proofs.Sums.{exact-sums}
-use Rattle.engine.proofs.Fits.{run-fits, file-listed}
+use Rattle.engine.proofs.Overflow.{wraps}
+use Rattle.engine.proofs.Fits.{Fit, run-fits, file-listed}
 
 module _ (file : List ℕ) (settings : Settings) (s : State) (memory : List ℕ) (budget : ℕ) where
   pub call-refused : (n : ℕ) → n ≡ callRefusal file settings s (length memory) → (n ≡ 0 → ⊥)
@@ -32,13 +39,23 @@ module _ (file : List ℕ) (settings : Settings) (s : State) (memory : List ℕ)
         within = omega arith;
         again = λ z. z;
         exact = λ z. absurd (h (e ∙ z));
+        wraps = λ z. absurd (h (e ∙ z));
       }
 
   run-steps : engineRun (programOf file) settings budget s memory .steps ≤ budget
   unfolding engineRun
   run-steps = rw zero-add at (run-within (engineDone (programOf file)) (λ k x. engineTurn (programOf file) settings x) budget 0 (record { state = s; memory = memory }))
 
-  -- a run from an accepted call leaves what an accepted call may begin with
+  -- a run from an accepted call fits all along
+  run-fit : callRefusal file settings s (length memory) ≡ 0 → Typed (s .core) → AreWords memory
+      → Fit (programOf file) (length memory) (engineRun (programOf file) settings budget s memory .machine)
+  run-fit none typed ram =
+      let words = length memory in
+      let accepted : fileRefusal file ≡ 0 = call-file file settings s words none in
+      run-fits (programOf file) (program-placed file accepted) (file-listed file accepted) settings words budget (record { state = s; memory = memory })
+      (record { stands = accepted-stands (programOf file) s typed (call-state file settings s words none); ram = ram; long = refl })
+
+  -- and leaves what an accepted call may begin with
   run-again : callRefusal file settings s (length memory) ≡ 0 → Typed (s .core) → AreWords memory
       → let x = engineRun (programOf file) settings budget s memory .machine in
       callRefusal file settings (x .state) (length (x .memory)) ≡ 0
@@ -46,9 +63,7 @@ module _ (file : List ℕ) (settings : Settings) (s : State) (memory : List ℕ)
   run-again none typed ram =
       let words = length memory in
       let accepted : fileRefusal file ≡ 0 = call-file file settings s words none in
-      let fit =
-      run-fits (programOf file) (program-placed file accepted) (file-listed file accepted) settings words budget (record { state = s; memory = memory })
-      (record { stands = accepted-stands (programOf file) s typed (call-state file settings s words none); ram = ram; long = refl }) in
+      let fit = run-fit none typed ram in
       let after = engineRun (programOf file) settings budget s memory .machine .state in
       rw (accepted, fit .long, call-settings file settings s words none, stands-accepted (programOf file) after (fit .stands))
 
@@ -67,6 +82,10 @@ module _ (file : List ℕ) (settings : Settings) (s : State) (memory : List ℕ)
         exact =
             λ _ none-clears clear.
             rw is (exact-sums (programOf file) settings s memory budget (file-listed file accepted) (typed .registers) none-clears clear);
+        wraps =
+            λ _ none-barred off quiet.
+            let stands = run-fit none typed ram .stands in
+            rw is (wraps (programOf file) settings none-barred quiet s memory budget off (stands .a) (stands .b));
       }
 
 -- two calls in a row, by their contracts alone: what an accepted call returned, however it ended, begins a run
@@ -75,3 +94,38 @@ pub next-runs : (file : List ℕ) (settings : Settings) (s : State) (memory : Li
     → resultOf r′ after′ ≡ engineRun (programOf file) settings m (r .state) after
 unfolding runOf
 next-runs file settings s memory n m r r′ after after′ none first second = rw (first .again none) at (second .runs)
+
+-- exact even after overflow, by the contract alone: an accepted call of such a program leaves the core of the ledger that goes on, its numbers cut to 40 bits and
+-- equal modulo 2^40, with O flags of its own, and its memory, after as many steps and with its ending
+pub call-wraps : (file : List ℕ) (settings : Settings) (s : State) (memory : List ℕ) (budget : ℕ) (r : Outcome) (after : List ℕ)
+    → callRefusal file settings s (length memory) ≡ 0 → holdsBarred (programOf file) ≡ false → isSaturating (s .core .mode) ≡ false → settings .traps ≡ 0
+    → Runs file settings s memory budget r after
+    → let y = onwardRun (programOf file) settings budget (s .core) memory in
+    let c = y .machine .core in
+    (r .state .core ≡ withSums c (signedOf 40 (lowBits 40 (c .a))) (signedOf 40 (lowBits 40 (c .b))) (r .state .core .oa) (r .state .core .ob))
+    × SameModulo 40 (r .state .core .a) (c .a)
+    × SameModulo 40 (r .state .core .b) (c .b)
+    × (after ≡ y .machine .memory)
+    × (r .steps ≡ y .steps)
+    × (ended (r .ending) ≡ y .stop)
+call-wraps file settings s memory budget r after none none-barred off quiet h =
+    let w = h .wraps none none-barred off quiet in
+    let m = w .matches in (
+      λ i.
+          record {
+            w = m .w i;
+            a = w .a i;
+            b = w .b i;
+            pc = m .pc i;
+            loops = m .loops i;
+            repeat = m .repeat i;
+            mode = m .mode i;
+            oa = r .state .core .oa;
+            ob = r .state .core .ob;
+          },
+      m .a,
+      m .b,
+      m .memory,
+      w .steps,
+      w .stop,
+    )

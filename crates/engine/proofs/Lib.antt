@@ -1,10 +1,17 @@
+pub mod Opened
 pub mod RunExamples
+pub mod OverflowExamples
 pub mod Table
+pub mod Holds
 pub mod Runs
 pub mod Agree
 pub mod Split
 pub mod Stored
 pub mod Sums
+pub mod SameWorks
+pub mod SameSteps
+pub mod Overflow
+pub mod Onward
 pub mod Fits
 pub mod Along
 pub mod Calls

@@ -5,20 +5,12 @@ use mathlib.Core.Bool.{Bool, true, false}
 use mathlib.Core.List.{List, [], _∷_, map}
 use lib.IntN.{ℤ, pos, negℤ}
 use lib.ListN.{set, replicate}
-use Rattle.integers.specs.Floor.{remainderOf}
-use Rattle.integers.specs.Bits.{lowBits, signedOf}
-use Rattle.integers.specs.Range.{lowest, highest, outside, nearer, limitedTo}
-use Rattle.accumulator.specs.Mode.{isGoodMode, modeOf, saturates}
-use Rattle.accumulator.specs.Product.{readOf, productOf}
-use Rattle.accumulator.specs.Limit.{isAccumulator, limitBits, hasLeft, keptOf, overflows, writeOf}
-use Rattle.accumulator.specs.Shift.{shiftOf, shiftAllowed}
-use Rattle.accumulator.specs.Store.{isOdd, roundsUp, roundedOf, needsLimiting, storedWord, storeOf}
+use Rattle.integers.specs.Bits.{signedOf}
+use Rattle.integers.specs.Range.{lowest, highest, outside}
+use Rattle.accumulator.specs.Mode.{isGoodMode, modeOf}
+use Rattle.accumulator.specs.Limit.{isAccumulator}
 use Rattle.accumulator.specs.declared.mode.Target.{Target}
 use Rattle.accumulator.specs.declared.mode.Target.the-variants.{A, B}
-use Rattle.address.specs.Word.{wordOf}
-use Rattle.address.specs.Region.{isInside, accessTrap}
-use Rattle.address.specs.Step.{sumOf, steppedOf, correctedOf, circularOf}
-use Rattle.address.specs.Reversal.{rev, widthUpTo, widthOf, indexOf, nextIndex, nextOf}
 use Rattle.operations.specs.declared.operation.Action.{Action}
 use Rattle.operations.specs.declared.operation.Action.the-variants.{Clr, Mpy, Mac, Msc, Ed, Edac, Movsac}
 use Rattle.operations.specs.declared.operation.Prefetch.{Prefetch}
@@ -31,88 +23,59 @@ use Rattle.operations.specs.declared.operation.Operation.{Operation}
 use Rattle.operations.specs.declared.operation.Operation.the-variants.{MacClass as MacOperation, AddAccumulators, Subtract, Negate, Shift, Lac, Add, Sac}
 use Rattle.operations.specs.declared.operation.Operation.the-variants.{SacR, Literal, Load, Store, Repeat, RepeatRegister, Do, DoRegister, EndEarly, SetMode}
 use Rattle.operations.specs.declared.operation.Operation.the-variants.{ClearSaturation}
-use Rattle.state.specs.Settings.{noCircular, trapsOverflow, trapsLeft}
+use Rattle.state.specs.Settings.{noCircular}
 use Rattle.state.specs.State.{noLoops}
 use Rattle.state.specs.Accept.{areLoops, isRepeatLeft, isState, stateRefusal}
 use Rattle.state.specs.declared.settings.Settings.{Settings}
 use Rattle.state.specs.declared.state.State.{State}
 use Rattle.state.proofs.Made.{made, _but_, reg, inA, inB, at, looping, due, by, flags, one, two}
-use Rattle.effects.specs.Pointer.{movedOf, stepOf, raisedOf, changeOf}
-use Rattle.effects.specs.Access.{operandAccess, prefetchAccess, backAccess, wordAt, changed}
-use Rattle.effects.specs.Mac.{exactBy, macExact, macAccesses, differenceOf, arrived, macRegisters, macWork}
-use Rattle.effects.specs.Operations.{shiftWork, byteShift, loadedValue, loadWork, storeWork, moveWork, loopWork, workOf}
 use Rattle.effects.specs.declared.access.Place.{Place}
 use Rattle.effects.specs.declared.access.Place.the-variants.{Register, Memory}
-use Rattle.machine.specs.Write.{trapAfter, settleOf, valueWord, putRegister, putMemory}
-use Rattle.machine.specs.Loops.{pushed, withPasses, popped}
-use Rattle.machine.specs.Control.{fallen, advanced, repeated, entered, endedEarly, controlOf, controlled, stateControlled}
-use Rattle.machine.specs.Step.{completed, stepped}
+use Rattle.machine.specs.Control.{controlOf, clears}
+use Rattle.machine.specs.Step.{operationAt}
 use Rattle.engine.specs.Ending.{numberOf, nameOf, codeOf}
-use Rattle.engine.specs.Run.{Stop, Result, run}
+use Rattle.engine.specs.Run.{Stop, Result}
 use Rattle.engine.specs.Run.Stop.{ended, left}
-use Rattle.engine.specs.Engine.{Engine, engineTurn, engineRun}
-use Rattle.engine.specs.Ledger.{Entry, Ledger, listed, exactTrap, keepExact, ledgerTurn, ledgerRun}
+use Rattle.engine.specs.Engine.{Engine}
+use Rattle.engine.specs.Ledger.{Entry, Ledger}
+use Rattle.engine.specs.Holds.{holds}
 use Rattle.engine.specs.Exact.{holdsClear, wordIn, storedAt}
 use Rattle.engine.specs.declared.ending.Ending.{Ending}
 use Rattle.engine.specs.declared.ending.Ending.the-variants.{Done, Spent, Trap, Refused}
+use Rattle.engine.proofs.Opened.{engine, exact}
+use Rattle.engine.proofs.Holds.{none-holds}
 
 -- ---- how the examples are written
 
--- the engine's run, with every definition that it comes to opened
-pub engine : List Operation → Settings → ℕ → State → List ℕ → Result Engine
-unfolding engineRun run engineTurn stepped completed workOf macWork macAccesses macExact macRegisters exactBy arrived differenceOf
-    shiftWork byteShift loadedValue loadWork storeWork moveWork loopWork
-    operandAccess prefetchAccess backAccess wordAt changed movedOf stepOf raisedOf changeOf
-    settleOf trapAfter trapsOverflow trapsLeft valueWord putRegister putMemory
-    stateControlled controlled controlOf endedEarly entered repeated advanced fallen pushed withPasses popped
-    wordOf isInside accessTrap sumOf steppedOf correctedOf circularOf rev widthUpTo widthOf indexOf nextIndex nextOf
-    modeOf saturates readOf productOf limitBits hasLeft keptOf overflows writeOf shiftOf shiftAllowed
-    isOdd roundsUp roundedOf needsLimiting storedWord storeOf
-    remainderOf lowBits signedOf lowest highest outside nearer limitedTo
-engine p settings budget s memory = engineRun p settings budget s memory
-
--- the ledger's
-pub exact : List Operation → Settings → ℕ → State → List ℕ → Result Ledger
-unfolding ledgerRun ledgerTurn keepExact exactTrap listed run workOf macWork macAccesses macExact macRegisters exactBy arrived differenceOf
-    shiftWork byteShift loadedValue loadWork storeWork moveWork loopWork
-    operandAccess prefetchAccess backAccess wordAt changed movedOf stepOf raisedOf changeOf
-    trapsOverflow valueWord putRegister putMemory
-    controlled controlOf endedEarly entered repeated advanced fallen pushed withPasses popped
-    wordOf isInside accessTrap sumOf steppedOf correctedOf circularOf rev widthUpTo widthOf indexOf nextIndex nextOf
-    modeOf saturates readOf productOf limitBits hasLeft overflows shiftOf shiftAllowed
-    isOdd roundsUp roundedOf needsLimiting storedWord storeOf
-    remainderOf lowBits signedOf lowest highest outside nearer limitedTo
-exact p settings budget s memory = ledgerRun p settings budget (s .core) memory
-
 -- settings: 8 words, 4 of them X's (addresses 1000 to 1006 hex, then 1008 to 100E), no correction; the trap word
-abbrev trapping : ℕ → Settings
+abbrev pub trapping : ℕ → Settings
 trapping traps = record { xwords = 4; traps = traps; x = noCircular; y = noCircular; reversed = record { register = 15; words = 0 } }
 
-abbrev plain : Settings
+abbrev pub plain : Settings
 plain = trapping 0
 
 -- word i holds 100 + i
-abbrev memory : List ℕ
+abbrev pub memory : List ℕ
 memory = 100 ∷ 101 ∷ 102 ∷ 103 ∷ 104 ∷ 105 ∷ 106 ∷ 107 ∷ []
 
 -- as after reset: all is zero except that the mode word is 0020 hex, SATDW alone
-abbrev start : State
+abbrev pub start : State
 start = made (replicate 14 0) (pos 0) (pos 0) 0 noLoops 0 0x20 false false false false
 
 -- a negative number
-abbrev minus : ℕ → ℤ
+abbrev pub minus : ℕ → ℤ
 minus n = negℤ (pos n)
 
 -- the engine ends so, with so many steps
-abbrev ends : Ending → ℕ → State → List ℕ → Result Engine
+abbrev pub ends : Ending → ℕ → State → List ℕ → Result Engine
 ends e k s m = record { machine = record { state = s; memory = m }; steps = k; stop = ended e }
 
 -- the ledger stops so, with so many steps; then its list, latest first
-abbrev stops : Stop → ℕ → State → List ℕ → List Entry → Result Ledger
+abbrev pub stops : Stop → ℕ → State → List ℕ → List Entry → Result Ledger
 stops e k s m l = record { machine = record { core = s .core; memory = m; stores = l }; steps = k; stop = e }
 
 -- an accumulator store: step, place, exact scaled value, word, limiting, rounded
-abbrev entry : ℕ → Place → ℤ → ℤ → Bool → Bool → Entry
+abbrev pub entry : ℕ → Place → ℤ → ℤ → Bool → Bool → Entry
 entry k place v word limiting rounded = record { step = k; place = place; value = v; word = word; limiting = limiting; rounded = rounded }
 
 -- memory word i
@@ -120,11 +83,11 @@ abbrev word : ℕ → Place
 word i = Memory (record { 0 = i })
 
 -- kinds 1 to 7
-abbrev mac : Action → Target → ℕ → ℕ → Prefetch → ℕ → WriteBack → Operation
+abbrev pub mac : Action → Target → ℕ → ℕ → Prefetch → ℕ → WriteBack → Operation
 mac action t m n x xto back = MacOperation (record { action = action; target = t; m = m; n = n; x = x; xto = xto; y = NoRead; yto = 0; back = back })
 
 -- without reads
-abbrev bare : Action → Target → ℕ → ℕ → WriteBack → Operation
+abbrev pub bare : Action → Target → ℕ → ℕ → WriteBack → Operation
 bare action t m n back = mac action t m n NoRead 0 back
 
 -- 13 ADD of W0, which adds 65,536 × W0
@@ -766,6 +729,10 @@ others =
     ∷ SetMode 0x20
     ∷ []
 
+-- a program in which none clears holds none, however long it is
+clears-nowhere : (p : List Operation) → ((i : ℕ) → clears (controlOf (operationAt p i)) ≡ false) → holdsClear p ≡ false
+clears-nowhere p h = none-holds (λ o. clears (controlOf o)) p h
+
 -- first, last, alone, between; after an operation that traps, so that it is not reached; none
 clears-anywhere :
     (holdsClear (ClearSaturation ∷ others) ≡ true)
@@ -776,7 +743,7 @@ clears-anywhere :
     × (engine (Literal 0 17 ∷ Shift A 0 ∷ ClearSaturation ∷ []) plain 9 start memory .steps ≡ 1)
     × (holdsClear others ≡ false)
     × (holdsClear [] ≡ false)
-unfolding engine holdsClear
+unfolding engine holds
 clears-anywhere = (refl, refl, refl, refl, refl, refl, refl, refl)
 
 -- ---- endings

@@ -1,13 +1,15 @@
--- A run stays within its budget, and what every step keeps it keeps: by induction on the budget left. Assumes nothing.
+-- A run stays within its budget, what every step keeps it keeps, and two machines that step alike run alike: by induction on the budget left. Assumes
+-- nothing.
 use Prim.Native.Nat.{ℕ, zero, suc, _+_, _≤_}
-use mathlib.Core.Bool.{Bool, true, false}
-use mathlib.Core.Path.{_≡_}
+use mathlib.Core.Bool.{Bool, true, false, cond}
+use mathlib.Core.Path.{_≡_, refl, ap}
 use native.Mathlib.Omega.{arith}
-use Rattle.integers.proofs.Whole.{by-test}
+use Rattle.integers.proofs.Whole.{by-test, same-test}
 use Rattle.engine.specs.Run.{Turn, Result, after, run}
 use Rattle.engine.specs.Run.Stop.{ended}
 use Rattle.engine.specs.Run.Turn.{over, last, next}
-use Rattle.engine.specs.declared.ending.Ending.the-variants.{Done}
+use Rattle.engine.specs.declared.ending.Ending.{Ending}
+use Rattle.engine.specs.declared.ending.Ending.the-variants.{Done, Spent}
 
 module _ {S : Type 0} (done : S → Bool) (turn : ℕ → S → Turn S) where
   -- where it is done it ends at once, whatever is left of the budget
@@ -51,3 +53,61 @@ module _ {S : Type 0} (done : S → Bool) (turn : ℕ → S → Turn S) (P : ℕ
   run-keeps (suc n) k s h =
       by-test (λ (r : Result S). Q (r .machine)) (done s) (λ e. ends k s h)
       (λ e. after-keeps k s (run done turn n (suc k)) (turn k s) h (step k s e h) (λ s′. run-keeps n (suc k) s′))
+
+-- ---- two machines side by side
+
+-- Q holds of two runs from machines in R, if it holds where both end at once alike, and if it passes from the runs after a turn of each to the runs with that
+-- turn
+module _ {S T : Type 0} (doneS : S → Bool) (doneT : T → Bool) (turnS : ℕ → S → Turn S) (turnT : ℕ → T → Turn T)
+    (R : S → T → Type 0) (Q : Result S → Result T → Type 0)
+    (same-done : (s : S) (t : T) → R s t → doneS s ≡ doneT t)
+    (ends : (k : ℕ) (e : Ending) (s : S) (t : T) → R s t
+    → Q (record { machine = s; steps = k; stop = ended e }) (record { machine = t; steps = k; stop = ended e }))
+    (turns : (n k : ℕ) (s : S) (t : T) → R s t → ((s′ : S) (t′ : T) → R s′ t′ → Q (run doneS turnS n (suc k) s′) (run doneT turnT n (suc k) t′))
+    → Q (after s k (run doneS turnS n (suc k)) (turnS k s)) (after t k (run doneT turnT n (suc k)) (turnT k t))) where
+  pub run-pairs : (n k : ℕ) (s : S) (t : T) → R s t → Q (run doneS turnS n k s) (run doneT turnT n k t)
+  unfolding run
+  run-pairs zero k s t h = rw (same-done s t h) (ends k (cond (doneT t) Done Spent) s t h)
+  run-pairs (suc n) k s t h =
+      rw (same-done s t h)
+      (same-test Q (doneT t) (λ e. ends k Done s t h) (λ e. turns n k s t h (λ s′ t′. run-pairs n (suc k) s′ t′)))
+
+-- two turns that stop alike, or step to machines in R
+abbrev pub TurnsAlike : {S T : Type 0} → (S → T → Type 0) → Turn S → Turn T → Type 0
+TurnsAlike R (over e) (over e′) = e ≡ e′
+TurnsAlike R (over e) (last e′ t) = ⊥
+TurnsAlike R (over e) (next t) = ⊥
+TurnsAlike R (last e s) (over e′) = ⊥
+TurnsAlike R (last e s) (last e′ t) = (e ≡ e′) × R s t
+TurnsAlike R (last e s) (next t) = ⊥
+TurnsAlike R (next s) (over e′) = ⊥
+TurnsAlike R (next s) (last e′ t) = ⊥
+TurnsAlike R (next s) (next t) = R s t
+
+-- two runs that end in machines in R, after equally many steps and alike
+pub record RunsAlike {S T : Type 0} (R : S → T → Type 0) (x : Result S) (y : Result T) : Type 0 where
+  pub machines : R (x .machine) (y .machine)
+  pub steps : x .steps ≡ y .steps
+  pub stop : x .stop ≡ y .stop
+
+module _ {S T : Type 0} (R : S → T → Type 0) where
+  after-alike : (k : ℕ) (s : S) (t : T) (f : S → Result S) (g : T → Result T) (u : Turn S) (v : Turn T)
+      → R s t → TurnsAlike R u v → ((s′ : S) (t′ : T) → R s′ t′ → RunsAlike R (f s′) (g t′)) → RunsAlike R (after s k f u) (after t k g v)
+  after-alike k s t f g (over e) (over e′) h a on = record { machines = h; steps = refl; stop = a }
+  after-alike k s t f g (over e) (last e′ t′) h a on = absurd a
+  after-alike k s t f g (over e) (next t′) h a on = absurd a
+  after-alike k s t f g (last e s′) (over e′) h a on = absurd a
+  after-alike k s t f g (last e s′) (last e′ t′) h a on = record { machines = a .1; steps = refl; stop = ap ended (a .0) }
+  after-alike k s t f g (last e s′) (next t′) h a on = absurd a
+  after-alike k s t f g (next s′) (over e′) h a on = absurd a
+  after-alike k s t f g (next s′) (last e′ t′) h a on = absurd a
+  after-alike k s t f g (next s′) (next t′) h a on = on s′ t′ a
+
+  module _ (doneS : S → Bool) (doneT : T → Bool) (turnS : ℕ → S → Turn S) (turnT : ℕ → T → Turn T)
+      (same-done : (s : S) (t : T) → R s t → doneS s ≡ doneT t)
+      (step : (k : ℕ) (s : S) (t : T) → R s t → TurnsAlike R (turnS k s) (turnT k t)) where
+    pub run-alike : (n k : ℕ) (s : S) (t : T) → R s t → RunsAlike R (run doneS turnS n k s) (run doneT turnT n k t)
+    run-alike =
+        run-pairs doneS doneT turnS turnT R (RunsAlike R) same-done (λ k e s t h. record { machines = h; steps = refl; stop = refl })
+        (λ n k s t h on.
+        after-alike k s t (run doneS turnS n (suc k)) (run doneT turnT n (suc k)) (turnS k s) (turnT k t) h (step k s t h) on)

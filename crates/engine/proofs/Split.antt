@@ -7,7 +7,6 @@ use native.Mathlib.Nat.{zero-add, suc-add, add-suc, add-zero}
 use lib.Dec.{eqb}
 use Rattle.integers.proofs.Whole.{by-test, same-test}
 use Rattle.accumulator.specs.Mode.{modeOf}
-use Rattle.accumulator.specs.Limit.{hasLeft}
 use Rattle.accumulator.specs.declared.mode.Mode.{Mode}
 use Rattle.operations.specs.declared.operation.Operation.{Operation}
 use Rattle.state.specs.declared.settings.Settings.{Settings}
@@ -21,7 +20,7 @@ use Rattle.engine.specs.Run.{Stop, Turn, Result, complete, after, run}
 use Rattle.engine.specs.Run.Stop.{ended, left}
 use Rattle.engine.specs.Run.Turn.{over, last, next}
 use Rattle.engine.specs.Engine.{Engine, engineTurn, engineDone, engineFrom, engineRun}
-use Rattle.engine.specs.Ledger.{Entry, Ledger, exactTrap, keepExact, ledgerTurn, ledgerDone, ledgerFrom, ledgerRun}
+use Rattle.engine.specs.Ledger.{Entry, Ledger, Beyond, stopsAt, exactTrap, keepExact, exactTurn, ledgerDone, exactFrom, exactRun}
 use Rattle.engine.specs.declared.ending.Ending.the-variants.{Done, Spent, Trap, Refused}
 use Rattle.engine.proofs.Runs.{run-done}
 
@@ -62,8 +61,9 @@ module _ {S : Type 0} (done : S → Bool) (turn : ℕ → S → Turn S) (ends : 
       go false e = refl
   run-split (suc n) m k s =
       ap (λ (b : ℕ). run done turn b k s) (suc-add n m)
-      ∙ same-test (λ a b. a ≡ goingOn (run done turn m) b) (done s) refl
-      (after-split k s (run done turn (n + m) (suc k)) (run done turn n (suc k)) (run done turn m) (turn k s) (ends k s) (λ s′. run-split n m (suc k) s′))
+      ∙ same-test (λ a b. a ≡ goingOn (run done turn m) b) (done s) (λ e. refl)
+      (λ e.
+      after-split k s (run done turn (n + m) (suc k)) (run done turn n (suc k)) (run done turn m) (turn k s) (ends k s) (λ s′. run-split n m (suc k) s′))
 
 -- ---- a machine that does not look at the steps made
 
@@ -81,8 +81,9 @@ module _ {S : Type 0} (done : S → Bool) (turn : S → Turn S) (j : ℕ) where
   unfolding run
   run-later zero k s = refl
   run-later (suc n) k s =
-      same-test (λ a b. a ≡ later j b) (done s) refl
-      (after-later k s (run done (λ i. turn) n (suc (j + k))) (run done (λ i. turn) n (suc k)) (turn s)
+      same-test (λ a b. a ≡ later j b) (done s) (λ e. refl)
+      (λ e.
+      after-later k s (run done (λ i. turn) n (suc (j + k))) (run done (λ i. turn) n (suc k)) (turn s)
       (λ s′. ap (λ (i : ℕ). run done (λ i. turn) n i s′) (sym (add-suc j k)) ∙ run-later n (suc k) s′))
 
 -- ---- the engine and the ledger
@@ -98,21 +99,21 @@ module _ (p : List Operation) (settings : Settings) where
       let r = stepped p settings (x .state) (x .memory) in
       by-test Ends (r .counted) (λ e. complete-ends (r .trap) _) (λ e. refl)
 
-  kept-ends : (m : Mode) (o : Operation) (e : Exact) (c : Core) (memory : List ℕ) (l : List Entry)
-      → Ends (keepExact p (settings .traps) m o e c memory l)
+  kept-ends : (beyond : Beyond) (m : Mode) (o : Operation) (e : Exact) (c : Core) (memory : List ℕ) (l : List Entry)
+      → Ends (keepExact beyond p (settings .traps) m o e c memory l)
   unfolding keepExact
-  kept-ends m o Keep c memory l = tt
-  kept-ends m o (ExactResult t r) c memory l =
-      by-test Ends (hasLeft m t r) (λ e. refl) (λ e. complete-ends (exactTrap (settings .traps) t r) _)
+  kept-ends beyond m o Keep c memory l = tt
+  kept-ends beyond m o (ExactResult t r) c memory l =
+      by-test Ends (stopsAt beyond m t r) (λ e. refl) (λ e. complete-ends (exactTrap (settings .traps) t r) _)
 
-  ledger-ends : (k : ℕ) (y : Ledger) → Ends (ledgerTurn p settings k y)
-  unfolding ledgerTurn
-  ledger-ends k y =
+  ledger-ends : (beyond : Beyond) (k : ℕ) (y : Ledger) → Ends (exactTurn beyond p settings k y)
+  unfolding exactTurn
+  ledger-ends beyond k y =
       let c = y .core in
       let m = modeOf (c .mode) in
       let o = operationAt p (c .pc) in
       let work = workOf settings m o c (y .memory) in
-      by-test Ends (eqb (work .effect .trap) 0) (λ e. kept-ends m o (work .effect .exact) _ _ _) (λ e. refl)
+      by-test Ends (eqb (work .effect .trap) 0) (λ e. kept-ends beyond m o (work .effect .exact) _ _ _) (λ e. refl)
 
   -- the engine's run in two parts
   pub engine-split : (n m : ℕ) (s : State) (memory : List ℕ)
@@ -128,8 +129,8 @@ module _ (p : List Operation) (settings : Settings) where
       added k x =
           ap (λ (j : ℕ). engineFrom p settings m j x) (sym (add-zero k)) ∙ run-later (engineDone p) (engineTurn p settings) k m 0 x
 
-  -- the ledger's, its list of stores and its count of steps carried on
-  pub ledger-split : (n m : ℕ) (c : Core) (memory : List ℕ)
-      → ledgerRun p settings (n + m) c memory ≡ goingOn (ledgerFrom p settings m) (ledgerRun p settings n c memory)
-  unfolding ledgerRun
-  ledger-split n m c memory = run-split (ledgerDone p) (ledgerTurn p settings) ledger-ends n m 0 _
+  -- the ledger's, whether it stops or goes on, its list of stores and its count of steps carried on
+  pub ledger-split : (beyond : Beyond) (n m : ℕ) (c : Core) (memory : List ℕ)
+      → exactRun beyond p settings (n + m) c memory ≡ goingOn (exactFrom beyond p settings m) (exactRun beyond p settings n c memory)
+  unfolding exactRun
+  ledger-split beyond n m c memory = run-split (ledgerDone p) (exactTurn beyond p settings) (ledger-ends beyond) n m 0 _

@@ -1,12 +1,12 @@
 -- Each store on the ledger's list is right in the engine: its word, and to half a unit where it is rounded and needed no limiting. Assumes nothing.
-use Prim.Native.Nat.{ℕ, suc, _+_, _-_, _<_}
-use mathlib.Core.Bool.{Bool, true, false, _&&_}
+use Prim.Native.Nat.{ℕ, suc, _+_, _<_}
+use mathlib.Core.Bool.{Bool, true, false}
 use mathlib.Core.Path.{_≡_, refl, sym, ap, _∙_, subst}
 use mathlib.Core.Logic.{⊎-elim}
 use mathlib.Core.List.{List, [], List·Memᴰ, List·Memᴰ·not-nil, List·Memᴰ·cases-cons}
 use native.Mathlib.Nat.{add-suc, suc-add, zero-add}
 use native.Mathlib.Numerals.{add-one}
-use lib.Dec.{eqb, ltb}
+use lib.Dec.{eqb}
 use lib.IntN.{ℤ}
 use lib.ListN.{length, getD}
 use lib.Seq.{getD-set-same}
@@ -21,7 +21,7 @@ use Rattle.accumulator.specs.declared.mode.Target.the-variants.{A, B}
 use Rattle.accumulator.proofs.Rounding.{half-unit}
 use Rattle.operations.specs.Listed.{isListed}
 use Rattle.operations.specs.declared.operation.Operation.{Operation}
-use Rattle.state.specs.State.{withAccumulator, withMode}
+use Rattle.state.specs.State.{withAccumulator}
 use Rattle.state.specs.declared.settings.Settings.{Settings}
 use Rattle.state.specs.declared.state.Core.{Core}
 use Rattle.effects.specs.Effect.{Work}
@@ -33,20 +33,18 @@ use Rattle.effects.specs.declared.effect.Exact.the-variants.{Keep, Result as Ex
 use Rattle.effects.specs.declared.effect.Value.{Value}
 use Rattle.effects.specs.declared.effect.Value.the-variants.{Word, Scaled}
 use Rattle.machine.specs.Write.{valueWord, putRegister, putMemory}
-use Rattle.machine.specs.Loops.{innerPasses}
-use Rattle.machine.specs.Control.{innerLast, fallen, advanced, repeated, entered, endedEarly, controlOf, controlled}
+use Rattle.machine.specs.Control.{controlOf, controlled}
 use Rattle.machine.specs.Step.{operationAt}
 use Rattle.machine.specs.declared.control.Control.{Control}
-use Rattle.machine.specs.declared.control.Control.the-variants.{None as Onward, Repeat as Repeating, RepeatRegister as RepeatingRegister, Do as Looping}
-use Rattle.machine.specs.declared.control.Control.the-variants.{DoRegister as LoopingRegister, EndEarly as EndingEarly, SetMode as SettingMode}
-use Rattle.machine.specs.declared.control.Control.the-variants.{ClearSaturation as Clearing}
 use Rattle.engine.specs.Run.{Turn, Result, run}
 use Rattle.engine.specs.Run.Turn.{over, last, next}
 use Rattle.engine.specs.Engine.{Engine, engineTurn, engineFrom, engineRun}
-use Rattle.engine.specs.Ledger.{Entry, isStored, listed, Ledger, exactTrap, keepExact, ledgerTurn, ledgerDone, ledgerRun}
+use Rattle.engine.specs.Ledger.{Entry, isStored, listed, Ledger, exactTrap, keepExact, exactTurn, ledgerDone, exactRun, ledgerRun}
+use Rattle.engine.specs.Ledger.Beyond.{stops}
 use Rattle.engine.specs.Exact.{holdsClear, wordIn, storedAt}
 use Rattle.engine.proofs.Runs.{Keeps, run-keeps}
 use Rattle.engine.proofs.Agree.{cleared, clear, Follows, turn-follows}
+use Rattle.machine.proofs.Order.{controlled-frame}
 use Rattle.machine.proofs.Words.{put-long}
 use Rattle.machine.proofs.Places.{Fits, work-fitted, listed-at}
 
@@ -56,34 +54,12 @@ module _ (p : List Operation) where
   abbrev Same : Core → Core → Type 0
   Same c d = d .w ≡ c .w
 
-  fallen-w : (c : Core) → Same c (fallen c)
-  unfolding fallen
-  fallen-w c = by-test (Same c) (ltb 0 (innerPasses (c .loops) - 1)) (λ e. refl) (λ e. refl)
-
-  advanced-w : (c : Core) → Same c (advanced p c)
-  unfolding advanced
-  advanced-w c =
-      by-test (Same c) (ltb 1 (c .repeat)) (λ e. refl)
-      (λ e. by-test (Same c) (ltb 0 (c .loops .depth) && eqb (c .pc) (innerLast p c)) (λ f. fallen-w c) (λ f. refl))
-
-  ended-w : (c : Core) → Same c (endedEarly p c)
-  unfolding endedEarly
-  ended-w c = by-test (Same c) (ltb 0 (c .loops .depth)) (λ e. refl) (λ e. refl)
-
   controlled-w : (k : Control) (c : Core) → Same c (controlled p k c)
-  unfolding controlled repeated entered
-  controlled-w Onward c = advanced-w c
-  controlled-w (Repeating n) c = refl
-  controlled-w (RepeatingRegister r) c = refl
-  controlled-w (Looping n) c = refl
-  controlled-w (LoopingRegister r) c = refl
-  controlled-w EndingEarly c = advanced-w (endedEarly p c) ∙ ended-w c
-  controlled-w (SettingMode word) c = advanced-w (withMode c word)
-  controlled-w Clearing c = advanced-w c
+  controlled-w k c = ap (λ (d : Core). d .w) (controlled-frame p k c)
 
   -- so does the exact result: after the ledger's turn P holds, where it holds with any core of these registers
   kept-leaves : (P : Ledger → Type 0) (traps : ℕ) (m : Mode) (o : Operation) (e : Exact) (c : Core) (memory : List ℕ) (l : List Entry)
-      → ((d : Core) → Same c d → P (record { core = d; memory = memory; stores = l })) → Keeps P P (keepExact p traps m o e c memory l)
+      → ((d : Core) → Same c d → P (record { core = d; memory = memory; stores = l })) → Keeps P P (keepExact stops p traps m o e c memory l)
   unfolding keepExact
   kept-leaves P traps m o Keep c memory l h = h _ (controlled-w (controlOf o) c)
   kept-leaves P traps m o (ExactResult t r) c memory l h =
@@ -126,8 +102,8 @@ module _ (p : List Operation) (settings : Settings) (ok : (i : ℕ) → i < leng
     lists : y′ .stores ≡ listed (modeAt y) k (workAt y .effect .place) (workAt y .effect .value) (y .stores)
     stands : isStored (workAt y .effect .place) ≡ true → wordIn (clear y′) (workAt y .effect .place) ≡ valueWord (modeAt y) (workAt y .effect .value)
 
-  turn-leaves : (k : ℕ) (y : Ledger) → length (y .core .w) ≡ 14 → Keeps (After (suc k) y) (After (suc k) y) (ledgerTurn p settings k y)
-  unfolding ledgerTurn
+  turn-leaves : (k : ℕ) (y : Ledger) → length (y .core .w) ≡ 14 → Keeps (After (suc k) y) (After (suc k) y) (exactTurn stops p settings k y)
+  unfolding exactTurn
   turn-leaves k y long =
       let place = workAt y .effect .place in
       let word = valueWord (modeAt y) (workAt y .effect .value) in
@@ -203,9 +179,9 @@ module _ (p : List Operation) (settings : Settings) (ok : (i : ℕ) → i < leng
         }
 
     pub run-rights : (budget : ℕ) → length (start .w) ≡ 14 → Rights (ledgerRun p settings budget start memory .machine .stores)
-    unfolding engineRun ledgerRun
+    unfolding engineRun exactRun
     run-rights budget long =
-        run-keeps (ledgerDone p) (ledgerTurn p settings) Reached (λ (y : Ledger). Rights (y .stores)) (λ k y h. h .rights)
-        (λ k y d h. reached-after k y (ledgerTurn p settings k y) d h (turn-follows p settings none k y) (turn-leaves k y (h .long)))
+        run-keeps (ledgerDone p) (exactTurn stops p settings) Reached (λ (y : Ledger). Rights (y .stores)) (λ k y h. h .rights)
+        (λ k y d h. reached-after k y (exactTurn stops p settings k y) d h (turn-follows p settings none k y) (turn-leaves k y (h .long)))
         budget 0 (record { core = start; memory = memory; stores = [] })
         (record { long = long; through = λ n. rw zero-add; rights = λ e i. absurd (List·Memᴰ·not-nil i) })

@@ -14,7 +14,7 @@ use Rattle.machine.specs.Step.{operationAt}
 use Rattle.engine.specs.Run.{Stop, isLeft, Result}
 use Rattle.engine.specs.Run.Stop.{ended, left}
 use Rattle.engine.specs.Engine.{Engine, engineRun}
-use Rattle.engine.specs.Ledger.{Ledger, ledgerRun}
+use Rattle.engine.specs.Ledger.{Ledger, exactRun, ledgerRun}
 use Rattle.engine.specs.Exact.{holdsClear, FlagsClear, Alike, NeverLeft, ExactSums}
 use Rattle.engine.proofs.Agree.{cleared, flagged-clear, Ends, run-agrees}
 use Rattle.engine.proofs.Stored.{run-rights}
@@ -47,7 +47,7 @@ module _ (x : Result Engine) (y : Result Ledger) where
 from-cleared : (p : List Operation) (settings : Settings) (c : Core) (memory : List ℕ) (budget : ℕ)
     → ((i : ℕ) → i < length p → isListed (operationAt p i) ≡ true) → length (c .w) ≡ 14 → holdsClear p ≡ false
     → ExactSums p settings (cleared c) memory (engineRun p settings budget (cleared c) memory) (ledgerRun p settings budget c memory)
-unfolding engineRun ledgerRun
+unfolding engineRun exactRun
 from-cleared p settings c memory budget ok long none =
     let agree = run-agrees p settings none budget 0 (record { core = c; memory = memory; stores = [] }) in
     record {

@@ -1,4 +1,4 @@
--- The call for a run: refused, or run; and exact sums.
+-- The call for a run: refused, or run; exact sums; exact even after overflow.
 use Prim.Native.Nat.{ℕ, _≤_}
 use mathlib.Core.Bool.{false}
 use mathlib.Core.List.{List}
@@ -12,8 +12,9 @@ use Rattle.machine.specs.Single.{callRefusal}
 use Rattle.engine.specs.Run.{Result}
 use Rattle.engine.specs.Run.Stop.{ended}
 use Rattle.engine.specs.Engine.{Engine, engineRun}
-use Rattle.engine.specs.Ledger.{ledgerRun}
+use Rattle.engine.specs.Ledger.{ledgerRun, onwardRun}
 use Rattle.engine.specs.Exact.{holdsClear, FlagsClear, ExactSums}
+use Rattle.engine.specs.Wraps.{holdsBarred, isSaturating, Wraps}
 use Rattle.engine.specs.declared.ending.Ending.the-variants.{Refused}
 use Rattle.engine.specs.declared.outcome.Outcome.{Outcome}
 
@@ -43,3 +44,7 @@ pub record Runs (file : List ℕ) (settings : Settings) (s : State) (memory : Li
   pub exact :
       callRefusal file settings s (length memory) ≡ 0 → holdsClear (programOf file) ≡ false → FlagsClear s →
       ExactSums (programOf file) settings s memory (resultOf r after) (ledgerRun (programOf file) settings budget (s .core) memory)
+  -- exact even after overflow: an accepted call, no barred operation, both saturations off, trap word 0
+  pub wraps :
+      callRefusal file settings s (length memory) ≡ 0 → holdsBarred (programOf file) ≡ false → isSaturating (s .core .mode) ≡ false →
+      settings .traps ≡ 0 → Wraps (resultOf r after) (onwardRun (programOf file) settings budget (s .core) memory)

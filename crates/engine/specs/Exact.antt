@@ -1,7 +1,7 @@
 -- Demand 3, exact sums: one statement about the whole run.
 use Prim.Native.Nat.{ℕ}
-use mathlib.Core.Bool.{Bool, true, false, _||_}
-use mathlib.Core.List.{List, [], _∷_, List·Memᴰ}
+use mathlib.Core.Bool.{Bool, true, false}
+use mathlib.Core.List.{List, List·Memᴰ}
 use mathlib.Core.Logic.{_↔_}
 use mathlib.Core.Path.{_≡_}
 use lib.ListN.{getD}
@@ -17,11 +17,11 @@ use Rattle.engine.specs.Run.{Result}
 use Rattle.engine.specs.Run.Stop.{left}
 use Rattle.engine.specs.Engine.{Engine, engineRun}
 use Rattle.engine.specs.Ledger.{Entry, Ledger}
+use Rattle.engine.specs.Holds.{holds}
 
 -- some operation of a program clears a saturation flag, reached or not
-unfoldable pub holdsClear : List Operation → Bool
-holdsClear [] = false
-holdsClear (o ∷ p) = clears (controlOf o) || holdsClear p
+abbrev pub holdsClear : List Operation → Bool
+holdsClear p = holds (λ o. clears (controlOf o)) p
 
 -- both saturation flags are clear
 pub record FlagsClear (s : State) : Type 0 where

@@ -1,4 +1,5 @@
--- The ledger: the same operations with each exact result kept, stopped where one leaves the limits, and its list of accumulator stores.
+-- The ledger: the same operations with each exact result kept, and its list of accumulator stores. Where a result leaves the limits it stops (document 01),
+-- or it goes on (wish 12).
 use Prim.Native.Nat.{ℕ, suc}
 use mathlib.Core.Bool.{Bool, true, false, cond, _&&_}
 use mathlib.Core.List.{List, [], _∷_}
@@ -70,18 +71,28 @@ pub record Ledger : Type 0 where
 unfoldable pub exactTrap : ℕ → Target → ℤ → ℕ
 exactTrap traps t r = cond (overflows r && trapsOverflow traps t) (overflowTrap t) 0
 
--- each exact r is kept; when r is outside the limits by the mode word before that step, it stops, marked "left"
-unfoldable pub keepExact : List Operation → ℕ → Mode → Operation → Exact → Core → List ℕ → List Entry → Turn Ledger
-keepExact p traps m o Keep c memory l = next (record { core = controlled p (controlOf o) c; memory = memory; stores = l })
-keepExact p traps m o (ExactResult t r) c memory l =
-    cond (hasLeft m t r)
+-- what a ledger does beyond the limits
+pub data Beyond : Type 0 where
+  stops : Beyond
+  goesOn : Beyond
+
+-- whether it stops at r: the ledger of document 01 where r is outside the limits by the mode word before that step, the one that goes on never
+abbrev pub stopsAt : Beyond → Mode → Target → ℤ → Bool
+stopsAt stops m t r = hasLeft m t r
+stopsAt goesOn m t r = false
+
+-- each exact r is kept; where it stops it is marked "left"
+unfoldable pub keepExact : Beyond → List Operation → ℕ → Mode → Operation → Exact → Core → List ℕ → List Entry → Turn Ledger
+keepExact beyond p traps m o Keep c memory l = next (record { core = controlled p (controlOf o) c; memory = memory; stores = l })
+keepExact beyond p traps m o (ExactResult t r) c memory l =
+    cond (stopsAt beyond m t r)
     (over left)
     (complete (exactTrap traps t r)
     (record { core = controlled p (controlOf o) (withAccumulator c t r (overflows r)); memory = memory; stores = l }))
 
 -- the operation at pc is executed after k steps: traps without effect come first
-unfoldable pub ledgerTurn : List Operation → Settings → ℕ → Ledger → Turn Ledger
-ledgerTurn p settings k x =
+unfoldable pub exactTurn : Beyond → List Operation → Settings → ℕ → Ledger → Turn Ledger
+exactTurn beyond p settings k x =
     let c = x .core in
     let m = modeOf (c .mode) in
     let o = operationAt p (c .pc) in
@@ -89,7 +100,7 @@ ledgerTurn p settings k x =
     let place = work .effect .place in
     let word = valueWord m (work .effect .value) in
     cond (eqb (work .effect .trap) 0)
-    (keepExact p (settings .traps) m o (work .effect .exact)
+    (keepExact beyond p (settings .traps) m o (work .effect .exact)
     (withRegisters c (putRegister place word (work .w)))
     (putMemory place word (x .memory))
     (listed m (suc k) place (work .effect .value) (x .stores)))
@@ -102,9 +113,17 @@ abbrev pub ledgerDone : List Operation → Ledger → Bool
 ledgerDone p x = eqb (x .core .pc) (length p)
 
 -- with n left of the budget and k steps made
-abbrev pub ledgerFrom : List Operation → Settings → ℕ → ℕ → Ledger → Result Ledger
-ledgerFrom p settings n k x = run (ledgerDone p) (ledgerTurn p settings) n k x
+abbrev pub exactFrom : Beyond → List Operation → Settings → ℕ → ℕ → Ledger → Result Ledger
+exactFrom beyond p settings n k x = run (ledgerDone p) (exactTurn beyond p settings) n k x
 
 -- It starts from the engine's program, settings, budget and state and a copy of its memory
-unfoldable pub ledgerRun : List Operation → Settings → ℕ → Core → List ℕ → Result Ledger
-ledgerRun p settings budget c memory = ledgerFrom p settings budget 0 (record { core = c; memory = memory; stores = [] })
+unfoldable pub exactRun : Beyond → List Operation → Settings → ℕ → Core → List ℕ → Result Ledger
+exactRun beyond p settings budget c memory = exactFrom beyond p settings budget 0 (record { core = c; memory = memory; stores = [] })
+
+-- the ledger of document 01
+abbrev pub ledgerRun : List Operation → Settings → ℕ → Core → List ℕ → Result Ledger
+ledgerRun p settings budget c memory = exactRun stops p settings budget c memory
+
+-- the ledger that goes on
+abbrev pub onwardRun : List Operation → Settings → ℕ → Core → List ℕ → Result Ledger
+onwardRun p settings budget c memory = exactRun goesOn p settings budget c memory

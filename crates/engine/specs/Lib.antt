@@ -1,8 +1,11 @@
--- The engine in the order of document 01: "Stepping and ending" (endings, the run, the engine's run), "Ledger", demand 3 (exact sums), the call, and the table A to L.
+-- The engine in the order of document 01: "Stepping and ending" (endings, the run, the engine's run), "Ledger", what a program holds, demand 3
+-- (exact sums), wish 12 (exact even after overflow), the call, and the table A to L.
 pub mod Ending
 pub mod Run
 pub mod Engine
 pub mod Ledger
+pub mod Holds
 pub mod Exact
+pub mod Wraps
 pub mod Call
 pub mod Table

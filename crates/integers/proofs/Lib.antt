@@ -6,4 +6,4 @@ pub mod Fitting
 pub mod Ranges
 pub mod Low
 pub mod Masks
-pub mod Wrapping
+pub mod Modulo

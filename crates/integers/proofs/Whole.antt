@@ -113,10 +113,11 @@ pub by-test : {X : Type 0} (P : X → Type 0) (t : Bool) {x y : X} → (t ≡ tr
 by-test P true f g = f refl
 by-test P false f g = g refl
 
--- what holds of both pairs holds of the pair that a test chooses
-pub same-test : {X Y : Type 0} (P : X → Y → Type 0) (t : Bool) {x x′ : X} {y y′ : Y} → P x y → P x′ y′ → P (cond t x x′) (cond t y y′)
-same-test P true h h′ = h
-same-test P false h h′ = h′
+-- the same of pairs: what holds of both, each under its test, holds of the pair that the test chooses
+pub same-test : {X Y : Type 0} (P : X → Y → Type 0) (t : Bool) {x x′ : X} {y y′ : Y} → (t ≡ true → P x y) → (t ≡ false → P x′ y′)
+    → P (cond t x x′) (cond t y y′)
+same-test P true f g = f refl
+same-test P false f g = g refl
 
 -- two comparisons that say the same are the same
 pub same-leb : (a b c d : ℕ) → (a ≤ b → c ≤ d) → (c ≤ d → a ≤ b) → leb a b ≡ leb c d

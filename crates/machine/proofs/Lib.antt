@@ -1,7 +1,9 @@
--- Worked examples first, then laws.
+-- The definition opened for them, worked examples, then laws.
+pub mod Opened
 pub mod CallExamples
 pub mod StepExamples
 pub mod Works
+pub mod Order
 pub mod Words
 pub mod Places
 pub mod Nested

@@ -44,6 +44,7 @@ use Rattle.machine.specs.declared.control.Control.the-variants.{None as 
 use Rattle.machine.specs.declared.control.Control.the-variants.{DoRegister as LoopingRegister, EndEarly as EndingEarly, SetMode as SettingMode}
 use Rattle.machine.specs.declared.control.Control.the-variants.{ClearSaturation as Clearing}
 use Rattle.machine.proofs.Works.{slot-free, settled-pc, settled-loops}
+use Rattle.machine.proofs.Order.{withSums}
 use Rattle.machine.proofs.Places.{work-fitted}
 use Rattle.state.specs.Typed.{AreWords, Typed}
 use Rattle.program.proofs.Placed.{role-is}
@@ -255,8 +256,7 @@ module _ (p : List Operation) (placed : isPlaced p ≡ true) where
 
   -- other accumulators of 40 bits
   summed : (c : Core) (a b : ℤ) (oa ob : Bool) → Stands p c → isAccumulator a ≡ true → isAccumulator b ≡ true
-      → Stands p
-      (record { w = c .w; a = a; b = b; pc = c .pc; loops = c .loops; repeat = c .repeat; mode = c .mode; oa = oa; ob = ob })
+      → Stands p (withSums c a b oa ob)
   summed c a b oa ob h ha hb =
       record { at = h .at; a = ha; b = hb; good = h .good; nested = h .nested; left = h .left; registers = h .registers; words = h .words }
 

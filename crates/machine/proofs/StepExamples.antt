@@ -5,20 +5,9 @@ use mathlib.Core.Bool.{Bool, true, false}
 use mathlib.Core.List.{List, [], _∷_, map}
 use lib.IntN.{ℤ, pos, negsuc}
 use lib.ListN.{getD, set, replicate}
-use Rattle.integers.specs.Floor.{remainderOf}
-use Rattle.integers.specs.Bits.{lowBits, signedOf}
-use Rattle.integers.specs.Range.{lowest, highest, outside, nearer, limitedTo}
-use Rattle.accumulator.specs.Mode.{modeOf, saturates}
-use Rattle.accumulator.specs.Product.{readOf, productOf}
-use Rattle.accumulator.specs.Limit.{limitBits, hasLeft, keptOf, overflows, writeOf}
-use Rattle.accumulator.specs.Shift.{shiftOf, shiftAllowed}
-use Rattle.accumulator.specs.Store.{isOdd, roundsUp, roundedOf, needsLimiting, storedWord, storeOf}
+use Rattle.accumulator.specs.Mode.{modeOf}
 use Rattle.accumulator.specs.declared.mode.Target.{Target}
 use Rattle.accumulator.specs.declared.mode.Target.the-variants.{A, B}
-use Rattle.address.specs.Word.{wordOf as indexAt}
-use Rattle.address.specs.Region.{isInside, accessTrap}
-use Rattle.address.specs.Step.{sumOf, steppedOf, correctedOf, circularOf}
-use Rattle.address.specs.Reversal.{rev, widthUpTo, widthOf, indexOf, nextIndex, nextOf}
 use Rattle.operations.specs.declared.operation.Action.{Action}
 use Rattle.operations.specs.declared.operation.Action.the-variants.{Clr, Mpy, Mac, Msc, Ed, Edac, Movsac}
 use Rattle.operations.specs.declared.operation.Prefetch.{Prefetch}
@@ -32,42 +21,25 @@ use Rattle.operations.specs.declared.operation.Operation.{Operation}
 use Rattle.operations.specs.declared.operation.Operation.the-variants.{MacClass as MacOperation, AddAccumulators, Subtract, Negate, Shift, Lac, Add, Sac}
 use Rattle.operations.specs.declared.operation.Operation.the-variants.{SacR, Literal, Load, Store, Repeat, RepeatRegister, Do, DoRegister, EndEarly, SetMode}
 use Rattle.operations.specs.declared.operation.Operation.the-variants.{ClearSaturation}
-use Rattle.state.specs.Settings.{trapsOverflow, trapsLeft}
 use Rattle.state.specs.State.{resetState}
 use Rattle.state.specs.declared.settings.Circular.{Circular}
 use Rattle.state.specs.declared.settings.Settings.{Settings}
 use Rattle.state.specs.declared.state.State.{State}
 use Rattle.state.proofs.Made.{slots, made, _but_, reg, inA, inB, at, looping, due, by, flags, one, two}
 use Rattle.state.proofs.AcceptExamples.{circle, none}
-use Rattle.effects.specs.Pointer.{movedOf, stepOf, raisedOf, changeOf}
-use Rattle.effects.specs.Access.{operandAccess, prefetchAccess, backAccess, wordAt, changed}
-use Rattle.effects.specs.Mac.{exactBy, macExact, macAccesses, differenceOf, arrived, macRegisters, macWork}
-use Rattle.effects.specs.Operations.{shiftWork, byteShift, loadedValue, loadWork, storeWork, moveWork, loopWork, workOf}
+use Rattle.effects.specs.Pointer.{movedOf}
+use Rattle.effects.specs.Operations.{workOf}
 use Rattle.effects.specs.declared.access.Place.{Place}
 use Rattle.effects.specs.declared.access.Place.the-variants.{Nowhere}
 use Rattle.effects.specs.declared.effect.Exact.{Exact}
 use Rattle.effects.specs.declared.effect.Exact.the-variants.{Keep}
-use Rattle.machine.specs.Write.{trapAfter, settleOf, valueWord, putRegister, putMemory}
-use Rattle.machine.specs.Loops.{pushed, withPasses, popped}
-use Rattle.machine.specs.Control.{fallen, advanced, repeated, entered, endedEarly, controlOf, controlled, stateControlled}
-use Rattle.machine.specs.Step.{Step, completed, stepped}
+use Rattle.machine.specs.Control.{endedEarly}
+use Rattle.machine.specs.Step.{Step}
 use Rattle.machine.specs.Single.{doneOrStepped, Steps}
+use Rattle.machine.proofs.Opened.{after}
 use Rattle.machine.proofs.CallExamples.{file, refused}
 
 -- ---- how the examples are written
-
--- a step, with every definition that it comes to opened
-pub after : List Operation → Settings → State → List ℕ → Step
-unfolding stepped completed workOf macWork macAccesses macExact macRegisters exactBy arrived differenceOf
-    shiftWork byteShift loadedValue loadWork storeWork moveWork loopWork
-    operandAccess prefetchAccess backAccess wordAt changed movedOf stepOf raisedOf changeOf
-    settleOf trapAfter trapsOverflow trapsLeft valueWord putRegister putMemory
-    stateControlled controlled controlOf endedEarly entered repeated advanced fallen pushed withPasses popped
-    indexAt isInside accessTrap sumOf steppedOf correctedOf circularOf rev widthUpTo widthOf indexOf nextIndex nextOf
-    modeOf saturates readOf productOf limitBits hasLeft keptOf overflows writeOf shiftOf shiftAllowed
-    isOdd roundsUp roundedOf needsLimiting storedWord storeOf
-    remainderOf lowBits signedOf lowest highest outside nearer limitedTo
-after p settings s memory = stepped p settings s memory
 
 -- settings: 12 words, 6 of them X's (addresses 1000 to 100A hex, then 100C to 1016); trap word, X's and Y's register, bit-reversed register and N
 abbrev settingsOf : ℕ → Circular → Circular → ℕ → ℕ → Settings

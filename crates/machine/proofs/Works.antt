@@ -1,18 +1,23 @@
--- What a step's parts leave: a DO without trap 4 has a free slot, a write keeps pc and the loops. Assumes nothing.
+-- What a step's parts leave: a DO without trap 4 has a free slot, a write keeps pc and the loops, with trap word 0 no write traps. Assumes nothing.
 use Prim.Native.Nat.{ℕ, _<_}
-use mathlib.Core.Bool.{true}
+use mathlib.Core.Bool.{true, false, not, and-false}
 use mathlib.Core.Path.{_≡_, refl}
 use mathlib.Core.List.{List}
 use native.Mathlib.Omega.{arith}
 use lib.Dec.{ltb}
+use lib.IntN.{ℤ}
 use borrow.Author.Tests.{ltb-true}
 use Rattle.integers.proofs.Whole.{never, by-test}
+use Rattle.accumulator.specs.Mode.{saturates}
+use Rattle.accumulator.specs.Limit.{hasLeft, keptOf, overflows}
 use Rattle.accumulator.specs.declared.mode.Mode.{Mode}
+use Rattle.accumulator.specs.declared.mode.Target.{Target}
 use Rattle.accumulator.specs.declared.mode.Target.the-variants.{A, B}
 use Rattle.operations.specs.declared.operation.Operation.{Operation}
 use Rattle.operations.specs.declared.operation.Operation.the-variants.{MacClass as MacOperation, AddAccumulators, Subtract, Negate, Shift, Lac, Add, Sac}
 use Rattle.operations.specs.declared.operation.Operation.the-variants.{SacR, Literal, Load, Store, Repeat, RepeatRegister, Do, DoRegister, EndEarly, SetMode}
 use Rattle.operations.specs.declared.operation.Operation.the-variants.{ClearSaturation}
+use Rattle.state.specs.Settings.{trapsOverflow, trapsLeft}
 use Rattle.state.specs.declared.settings.Settings.{Settings}
 use Rattle.state.specs.declared.state.Core.{Core}
 use Rattle.state.specs.declared.state.State.{State}
@@ -20,7 +25,7 @@ use Rattle.effects.specs.Effect.{Work, blocked}
 use Rattle.effects.specs.Operations.{loopWork, workOf}
 use Rattle.effects.specs.declared.effect.Exact.{Exact}
 use Rattle.effects.specs.declared.effect.Exact.the-variants.{Keep, Result}
-use Rattle.machine.specs.Write.{settleOf}
+use Rattle.machine.specs.Write.{trapAfter, settleOf}
 use Rattle.machine.specs.Control.{controlOf, begins}
 
 -- ---- a DO without trap 4 has a free slot
@@ -68,3 +73,15 @@ unfolding settleOf
 settled-loops t m Keep s = refl
 settled-loops t m (Result A r) s = refl
 settled-loops t m (Result B r) s = refl
+
+-- ---- with trap word 0 no write traps
+
+pub no-overflow-trap : (t : Target) → trapsOverflow 0 t ≡ false
+unfolding trapsOverflow
+no-overflow-trap A = refl
+no-overflow-trap B = refl
+
+pub no-trap : (m : Mode) (t : Target) (r : ℤ) → trapAfter 0 m t r ≡ 0
+unfolding trapAfter trapsLeft
+no-trap m t r =
+    rw (no-overflow-trap t, and-false (not (saturates m t)), and-false (hasLeft m t r), and-false (overflows (keptOf m t r)))

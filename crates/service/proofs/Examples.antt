@@ -7,17 +7,10 @@ use mathlib.Core.Bool.{Bool, true, false}
 use mathlib.Core.List.{List, [], _∷_, map}
 use lib.IntN.{ℤ, pos, negℤ}
 use lib.ListN.{set, replicate, length-set}
-use Rattle.integers.specs.Floor.{remainderOf}
-use Rattle.integers.specs.Bits.{lowBits, signedOf}
-use Rattle.integers.specs.Range.{lowest, highest, outside, nearer, limitedTo}
-use Rattle.accumulator.specs.Mode.{isGoodMode, modeOf, saturates}
-use Rattle.accumulator.specs.Limit.{isAccumulator, limitBits, hasLeft, keptOf, overflows, writeOf}
-use Rattle.accumulator.specs.Shift.{shiftOf, shiftAllowed}
-use Rattle.accumulator.specs.Store.{isOdd, roundsUp, roundedOf, needsLimiting, storedWord, storeOf}
+use Rattle.integers.specs.Range.{lowest, highest, outside}
+use Rattle.accumulator.specs.Mode.{isGoodMode, modeOf}
+use Rattle.accumulator.specs.Limit.{isAccumulator}
 use Rattle.accumulator.specs.declared.mode.Target.the-variants.{A}
-use Rattle.address.specs.Word.{wordOf}
-use Rattle.address.specs.Region.{isInside, accessTrap}
-use Rattle.address.specs.Step.{sumOf, steppedOf, correctedOf, circularOf}
 use Rattle.operations.specs.Listed.{isListed}
 use Rattle.operations.specs.declared.operation.PostModification.the-variants.{None as Stays, Increment}
 use Rattle.operations.specs.declared.operation.Operand.the-variants.{Register as Direct, Memory as Pointed}
@@ -25,29 +18,25 @@ use Rattle.operations.specs.declared.operation.Operation.{Operation}
 use Rattle.operations.specs.declared.operation.Operation.the-variants.{Add, SacR, Literal, Load, Repeat, Do}
 use Rattle.program.specs.File.{blocksRefusal, fileRefusal}
 use Rattle.program.specs.Placement.{isPlaced}
-use Rattle.state.specs.Settings.{trapsOverflow, trapsLeft, plainSettings}
+use Rattle.state.specs.Settings.{plainSettings}
 use Rattle.state.specs.State.{noLoops, restartedState}
 use Rattle.state.specs.Accept.{areLoops, isRepeatLeft, isState, stateRefusal}
 use Rattle.state.specs.declared.settings.Settings.{Settings}
 use Rattle.state.specs.declared.state.Core.{Core}
 use Rattle.state.specs.declared.state.State.{State}
 use Rattle.state.proofs.Made.{made, _but_, reg, inB, at, due, by, flags, one}
-use Rattle.effects.specs.Pointer.{movedOf, stepOf, raisedOf, changeOf}
-use Rattle.effects.specs.Access.{operandAccess, wordAt, changed}
-use Rattle.effects.specs.Operations.{byteShift, loadedValue, loadWork, storeWork, moveWork, loopWork, workOf}
 use Rattle.effects.specs.declared.access.Place.the-variants.{Memory}
-use Rattle.machine.specs.Write.{trapAfter, settleOf, valueWord, putRegister, putMemory}
-use Rattle.machine.specs.Loops.{pushed, withPasses, popped}
-use Rattle.machine.specs.Control.{fallen, advanced, repeated, entered, endedEarly, controlOf, controlled, stateControlled}
-use Rattle.machine.specs.Step.{operationAt, completed, stepped}
+use Rattle.machine.specs.Control.{controlOf}
+use Rattle.machine.specs.Step.{operationAt}
 use Rattle.machine.proofs.Words.{IsWord, set-words}
 use Rattle.machine.specs.Single.{callRefusal}
 use Rattle.engine.specs.Ending.{codeOf}
-use Rattle.engine.specs.Run.{Stop, run}
+use Rattle.engine.specs.Run.{Stop}
 use Rattle.engine.specs.Run.Stop.{ended, left}
-use Rattle.engine.specs.Engine.{Engine, engineTurn, engineRun}
-use Rattle.engine.specs.Ledger.{Entry, listed, exactTrap, keepExact, ledgerTurn, ledgerRun}
-use Rattle.engine.specs.Exact.{holdsClear}
+use Rattle.engine.specs.Engine.{Engine}
+use Rattle.engine.specs.Ledger.{Entry}
+use Rattle.engine.specs.Holds.{holds}
+use Rattle.engine.proofs.Opened.{engine, exact as exactRuns}
 use Rattle.engine.specs.declared.ending.Ending.the-variants.{Done, Spent, Trap}
 use Rattle.service.specs.Service.{Bag, onward, engineOf, firstBefore, Served, engineService, engineAfter, ledgerService}
 use Rattle.service.specs.Exact.{Sound, Every, Pairs, AsFar, ExactService}
@@ -60,13 +49,7 @@ use Rattle.state.proofs.Parts.{zeros}
 
 -- the engine's service, with every definition that it comes to opened
 service : List Operation → Settings → Engine → List Bag → List Served
-unfolding engineService engineRun run engineTurn stepped completed workOf restartedState
-    byteShift loadedValue loadWork storeWork moveWork loopWork operandAccess wordAt changed movedOf stepOf raisedOf changeOf
-    settleOf trapAfter trapsOverflow trapsLeft plainSettings valueWord putRegister putMemory
-    stateControlled controlled controlOf endedEarly entered repeated advanced fallen pushed withPasses popped
-    wordOf isInside accessTrap sumOf steppedOf correctedOf circularOf
-    modeOf saturates limitBits hasLeft keptOf overflows writeOf shiftOf shiftAllowed
-    isOdd roundsUp roundedOf needsLimiting storedWord storeOf remainderOf lowBits signedOf lowest highest outside nearer limitedTo
+unfolding engineService restartedState plainSettings engine
 service p settings x bags = engineService p settings x bags
 
 -- what is seen of the engine after a bag: how its run stopped, its steps, its state and memory
@@ -96,13 +79,7 @@ abbrev tells : Stop → ℕ → State → List ℕ → List Entry → Told
 tells e k s memory l = record { stop = e; steps = k; core = s .core; memory = memory; stores = l }
 
 exact : List Operation → Settings → Engine → List Bag → List Told
-unfolding ledgerService ledgerRun ledgerTurn keepExact exactTrap listed run workOf
-    byteShift loadedValue loadWork storeWork moveWork loopWork operandAccess wordAt changed movedOf stepOf raisedOf changeOf
-    trapsOverflow plainSettings valueWord putRegister putMemory
-    controlled controlOf endedEarly entered repeated advanced fallen pushed withPasses popped
-    wordOf isInside accessTrap sumOf steppedOf correctedOf circularOf
-    modeOf saturates limitBits hasLeft overflows shiftOf shiftAllowed
-    isOdd roundsUp roundedOf needsLimiting storedWord storeOf remainderOf lowBits signedOf lowest highest outside nearer limitedTo
+unfolding ledgerService restartedState plainSettings exactRuns
 exact p settings x bags =
     map
     (λ v.
@@ -349,7 +326,7 @@ sound x y budget hx hy =
 three-exact :
     ExactService weigh (plainSettings 2) (begun (pos 0)) (engineService weigh (plainSettings 2) (begun (pos 0)) three)
     (ledgerService weigh (plainSettings 2) (start (pos 0) .core) (0 ∷ 0 ∷ 0 ∷ 0 ∷ []) three)
-unfolding isPlaced isListed holdsClear controlOf restartedState stateRefusal isState areLoops isRepeatLeft isAccumulator isGoodMode outside lowest highest modeOf
+unfolding isPlaced isListed holds controlOf restartedState stateRefusal isState areLoops isRepeatLeft isAccumulator isGoodMode outside lowest highest modeOf
 three-exact =
     exact-service weigh refl listed refl (plainSettings 2) (begun (pos 0)) (record { sa = refl; sb = refl }) three sounds
     (accepted-begins weigh three (begun (pos 0))

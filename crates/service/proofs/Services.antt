@@ -18,7 +18,7 @@ use Rattle.machine.specs.Step.{operationAt}
 use Rattle.engine.specs.Run.{Stop, isLeft, Result}
 use Rattle.engine.specs.Run.Stop.{ended, left}
 use Rattle.engine.specs.Engine.{Engine, engineRun}
-use Rattle.engine.specs.Ledger.{Ledger, ledgerRun}
+use Rattle.engine.specs.Ledger.{Ledger, exactRun, ledgerRun}
 use Rattle.engine.specs.Exact.{holdsClear, FlagsClear, NeverLeft, ExactSums}
 use Rattle.engine.proofs.Agree.{cleared, clear, SetIn, FlaggedIn, either, flagged-clear, Ends, Agree, run-stays, run-agrees}
 use Rattle.engine.proofs.Sums.{exact-sums}
@@ -130,7 +130,7 @@ module _ (p : List Operation) (settings : Settings) (none : holdsClear p ≡ fal
     Told n v x = Agree (runFrom n x) v × ExactSums p settings (x .state) (x .memory) (runFrom n x) v
 
     told : (n : ℕ) (z : Ledger) → length (z .core .w) ≡ 14 → Told n (ledgerRun p settings n (z .core) (z .memory)) (clear z)
-    unfolding engineRun ledgerRun
+    unfolding engineRun exactRun
     told n z long = (
       run-agrees p settings none n 0 (record { core = z .core; memory = z .memory; stores = [] }),
       exact-sums p settings (cleared (z .core)) (z .memory) n ok long none (record { sa = refl; sb = refl }),

@@ -1,12 +1,14 @@
 //! The ledger's own arithmetic on whole numbers.
 //!
-//! The paper's numbers are unlimited. 128 bits are as good: the ledger stops at
-//! the first result outside the limits, so what it keeps is always within 40
-//! bits (it starts from an accepted state), and one operation makes at most
-//! 2^39 x 2^16 plus a product below 2^34 out of that, far below 2^127.
+//! The paper's numbers are unlimited. 128 bits are as good for a ledger that stops
+//! at the first result outside the limits: what it keeps is always within 40 bits
+//! (it starts from an accepted state), and one operation makes at most 2^39 x 2^16
+//! plus a product below 2^34 out of that, far below 2^127. Factors and products
+//! are never larger; all else is for either kind of whole numbers.
 
 use crate::mode::Mode;
 use crate::operation::Target;
+use crate::whole::Whole;
 use crate::words::Reading;
 
 /// A word as a whole number.
@@ -26,49 +28,65 @@ pub fn product(m: u16, n: u16, mode: Mode) -> i128 {
 }
 
 /// v / 2^n with its floor, or v x 2^-n.
-pub fn scaled(value: i128, by: i128) -> i128 {
-    let power = 2_i128.pow(by.unsigned_abs() as u32);
+pub fn scaled<N: Whole>(value: &N, by: i32) -> N {
+    let power = by.unsigned_abs();
     if by > 0 {
-        value.div_euclid(power)
+        value.floor_power(power)
     } else {
-        value * power
+        value.times_power(power)
+    }
+}
+
+/// Whether a number is one of so many bits, read as signed.
+fn fits<N: Whole>(value: &N, bits: u32) -> bool {
+    let half = N::from(2_i128.pow(bits - 1));
+    -half.clone() <= *value && *value < half
+}
+
+/// The low bits of a number, read as signed.
+pub fn low_bits<N: Whole>(value: &N, bits: u32) -> i128 {
+    let low = i128::from(value.modulo_power(bits));
+    if low < 2_i128.pow(bits - 1) {
+        low
+    } else {
+        low - 2_i128.pow(bits)
     }
 }
 
 /// Whether an exact result is within the limits of its accumulator.
-pub fn within_limits(exact: i128, mode: Mode, target: Target) -> bool {
+pub fn within_limits<N: Whole>(exact: &N, mode: Mode, target: Target) -> bool {
     let narrow = mode.saturates(target) && !mode.wide_saturation();
-    let half = 2_i128.pow(if narrow { 31 } else { 39 });
-    -half <= exact && exact < half
+    fits(exact, if narrow { 32 } else { 40 })
 }
 
 /// The O flag.
-pub fn overflows(value: i128) -> bool {
-    !(-(2_i128.pow(31))..2_i128.pow(31)).contains(&value)
+pub fn overflows<N: Whole>(value: &N) -> bool {
+    !fits(value, 32)
 }
 
 /// The store's result before SATDW.
-pub fn stored(value: i128, is_rounded: bool, mode: Mode) -> i128 {
-    let quotient = value.div_euclid(65_536);
-    let remainder = value.rem_euclid(65_536);
-    let up = match remainder.cmp(&32_768) {
+pub fn stored<N: Whole>(value: &N, is_rounded: bool, mode: Mode) -> N {
+    let quotient = value.floor_power(16);
+    let is_odd = quotient.modulo_power(1) == 1;
+    let up = match value.modulo_power(16).cmp(&32_768) {
         std::cmp::Ordering::Less => false,
-        std::cmp::Ordering::Equal => mode.ties_up() || quotient.rem_euclid(2) == 1,
+        std::cmp::Ordering::Equal => mode.ties_up() || is_odd,
         std::cmp::Ordering::Greater => true,
     };
-    quotient + i128::from(is_rounded && up)
+    quotient + N::from(i128::from(is_rounded && up))
 }
 
 /// Whether limiting was needed; SATDW has no say in it.
-pub fn needs_limiting(result: i128) -> bool {
-    !(-32_768..=32_767).contains(&result)
+pub fn needs_limiting<N: Whole>(result: &N) -> bool {
+    !fits(result, 16)
 }
 
 /// The stored word, read as signed.
-pub fn word(result: i128, mode: Mode) -> i128 {
+pub fn word<N: Whole>(result: &N, mode: Mode) -> i128 {
     if mode.limits_stores() {
-        result.clamp(-32_768, 32_767)
+        let limited = result.clone().clamp(N::from(-32_768), N::from(32_767));
+        low_bits(&limited, 16)
     } else {
-        (result + 32_768).rem_euclid(65_536) - 32_768
+        low_bits(result, 16)
     }
 }

@@ -1,6 +1,7 @@
 //! "Ledger": its own machine, with A and B as whole numbers and no S flags.
 //! It shares decoding, addresses, operand fetch and stepping with the engine;
-//! what it keeps, when it stops and what it lists are its own.
+//! what it keeps, when it stops and what it lists are its own. What becomes of a
+//! result outside the limits is a parameter: document 01's ledger stops there.
 
 use crate::ending::{Ending, Trap};
 use crate::engine::accept;
@@ -14,14 +15,15 @@ use crate::prefetch;
 use crate::settings::Settings;
 use crate::state::State;
 use crate::step::{begin, transfer};
+use crate::whole::Whole;
 use crate::words::Reading;
 use crate::write_back;
 
 /// The engine's state except for A, B and the S flags.
 #[derive(Clone, Copy, Debug, PartialEq, Eq)]
-pub struct LedgerState {
+pub struct LedgerState<N = i128> {
     pub w: [u16; 14],
-    pub accumulators: [i128; 2],
+    pub accumulators: [N; 2],
     pub overflow: [bool; 2],
     pub mode: Mode,
     pub flow: Flow,
@@ -29,12 +31,12 @@ pub struct LedgerState {
 
 /// A store of an accumulator (kinds 14, 15, write-back).
 #[derive(Clone, Copy, Debug, PartialEq, Eq)]
-pub struct ListedStore {
+pub struct ListedStore<N = i128> {
     /// The number of the step, the first being 1.
     pub step: u32,
     pub place: Place,
     /// The exact scaled value v: the accumulator after the shift rule.
-    pub value: i128,
+    pub value: N,
     /// The word, read as signed.
     pub word: i128,
     /// The result before SATDW was outside -32,768..32,767.
@@ -53,13 +55,20 @@ pub enum LedgerEnding {
 }
 
 #[derive(Clone, Debug, PartialEq, Eq)]
-pub struct LedgerOutcome {
+pub struct LedgerOutcome<N = i128> {
     pub ending: LedgerEnding,
-    pub state: LedgerState,
+    pub state: LedgerState<N>,
     pub memory: Vec<u16>,
     pub steps: u32,
-    pub stores: Vec<ListedStore>,
+    pub stores: Vec<ListedStore<N>>,
 }
+
+/// What is kept of an exact result outside the limits; nothing where the ledger
+/// stops, marked "left".
+pub type Beyond<N> = fn(N) -> Option<N>;
+
+/// Document 01's ledger stops.
+const STOPS: Beyond<i128> = |_| None;
 
 /// Why a step stops the ledger.
 enum Stop {
@@ -78,13 +87,14 @@ impl From<Trap> for Stop {
 /// The accumulator an operation wrote.
 type Effect = Result<Option<Target>, Stop>;
 
-struct Ledger<'a> {
-    state: LedgerState,
+struct Ledger<'a, N> {
+    state: LedgerState<N>,
     operations: &'a [Operation],
     settings: &'a Settings,
     memory: Memory<'a>,
     steps: u32,
-    stores: Vec<ListedStore>,
+    stores: Vec<ListedStore<N>>,
+    beyond: Beyond<N>,
 }
 
 impl LedgerState {
@@ -98,17 +108,44 @@ impl LedgerState {
             flow: state.flow,
         }
     }
+}
 
-    /// To start again, as the engine's state does.
-    pub fn restart(&self) -> LedgerState {
+impl<N> LedgerState<N> {
+    /// The same with other whole numbers.
+    pub fn with_numbers<M: From<N>>(self) -> LedgerState<M> {
         LedgerState {
-            flow: Flow::reset(),
-            ..*self
+            w: self.w,
+            accumulators: self.accumulators.map(M::from),
+            overflow: self.overflow,
+            mode: self.mode,
+            flow: self.flow,
         }
     }
 }
 
-impl ListedStore {
+impl<N: Clone> LedgerState<N> {
+    /// To start again, as the engine's state does.
+    pub fn restart(&self) -> LedgerState<N> {
+        LedgerState {
+            flow: Flow::reset(),
+            ..self.clone()
+        }
+    }
+}
+
+impl<N> ListedStore<N> {
+    /// The same with other whole numbers.
+    fn with_numbers<M: From<N>>(self) -> ListedStore<M> {
+        ListedStore {
+            step: self.step,
+            place: self.place,
+            value: M::from(self.value),
+            word: self.word,
+            limiting_needed: self.limiting_needed,
+            rounded: self.rounded,
+        }
+    }
+
     /// What stands at the store's place, read as signed.
     pub fn standing(&self, w: &[u16; 14], memory: &[u16]) -> i128 {
         let word = match self.place {
@@ -116,6 +153,20 @@ impl ListedStore {
             Place::Memory(index) => memory[index.0],
         };
         exact::factor(word, Reading::Signed)
+    }
+}
+
+impl<N> LedgerOutcome<N> {
+    /// The same with other whole numbers.
+    pub fn with_numbers<M: From<N>>(self) -> LedgerOutcome<M> {
+        let stores = self.stores.into_iter().map(ListedStore::with_numbers);
+        LedgerOutcome {
+            ending: self.ending,
+            state: self.state.with_numbers(),
+            memory: self.memory,
+            steps: self.steps,
+            stores: stores.collect(),
+        }
     }
 }
 
@@ -128,9 +179,21 @@ pub fn ledger_run(
     memory: &[u16],
     budget: u32,
 ) -> LedgerOutcome {
-    let core = LedgerState::of(state);
+    ledger_run_beyond(file, settings, state, memory, budget, STOPS)
+}
+
+/// The same with what becomes of results outside the limits.
+pub fn ledger_run_beyond<N: Whole>(
+    file: &[u8],
+    settings: &Settings,
+    state: &State,
+    memory: &[u16],
+    budget: u32,
+    beyond: Beyond<N>,
+) -> LedgerOutcome<N> {
+    let core = LedgerState::of(state).with_numbers();
     match accept(file, settings, state, memory.len()) {
-        Ok(operations) => ledger_operations(&operations, settings, &core, memory, budget),
+        Ok(operations) => operations_beyond(&operations, settings, core, memory, budget, beyond),
         Err(number) => LedgerOutcome {
             ending: LedgerEnding::AsRun(Ending::Refused(number)),
             state: core,
@@ -150,14 +213,26 @@ pub fn ledger_operations(
     memory: &[u16],
     budget: u32,
 ) -> LedgerOutcome {
+    operations_beyond(operations, settings, *core, memory, budget, STOPS)
+}
+
+fn operations_beyond<N: Whole>(
+    operations: &[Operation],
+    settings: &Settings,
+    core: LedgerState<N>,
+    memory: &[u16],
+    budget: u32,
+    beyond: Beyond<N>,
+) -> LedgerOutcome<N> {
     let mut copy = memory.to_vec();
     let mut ledger = Ledger {
-        state: *core,
+        state: core,
         operations,
         settings,
         memory: Memory::new(&mut copy, settings.x_words),
         steps: 0,
         stores: Vec::new(),
+        beyond,
     };
     let ending = ledger.run(budget);
     let (state, steps, stores) = (ledger.state, ledger.steps, ledger.stores);
@@ -170,7 +245,7 @@ pub fn ledger_operations(
     }
 }
 
-impl Ledger<'_> {
+impl<N: Whole> Ledger<'_, N> {
     /// Done, else spent, else execute; and "left".
     fn run(&mut self, budget: u32) -> LedgerEnding {
         loop {
@@ -209,29 +284,29 @@ impl Ledger<'_> {
         }
     }
 
-    fn value(&self, target: Target) -> i128 {
-        self.state.accumulators[target.index()]
+    fn value(&self, target: Target) -> N {
+        self.state.accumulators[target.index()].clone()
     }
 
-    /// Stop, marked "left", when the exact result is outside the limits.
-    fn check(&self, target: Target, exact: i128) -> Result<(), Stop> {
-        if exact::within_limits(exact, self.state.mode, target) {
-            Ok(())
+    /// What is kept of the exact result: itself within the limits.
+    fn kept(&self, target: Target, exact: N) -> Result<N, Stop> {
+        if exact::within_limits(&exact, self.state.mode, target) {
+            Ok(exact)
         } else {
-            Err(Stop::Left)
+            (self.beyond)(exact).ok_or(Stop::Left)
         }
     }
 
-    /// Keep a checked exact result and redo the O flag.
-    fn keep(&mut self, target: Target, exact: i128) {
-        self.state.accumulators[target.index()] = exact;
-        self.state.overflow[target.index()] = exact::overflows(exact);
+    /// Keep it and redo the O flag.
+    fn keep(&mut self, target: Target, kept: N) {
+        self.state.overflow[target.index()] = exact::overflows(&kept);
+        self.state.accumulators[target.index()] = kept;
     }
 
-    fn product(&self, factors: Factors) -> i128 {
+    fn product(&self, factors: Factors) -> N {
         let m = self.state.w[usize::from(factors.m)];
         let n = self.state.w[usize::from(factors.n)];
-        exact::product(m, n, self.state.mode)
+        N::from(exact::product(m, n, self.state.mode))
     }
 
     fn effect(&mut self, operation: Operation) -> Effect {
@@ -252,7 +327,7 @@ impl Ledger<'_> {
             }
             Negate(target) => self.result(target, -self.value(target)),
             ShiftBy(target, register) => self.shift_by(target, register),
-            Lac(scaled) => self.take(scaled, 0),
+            Lac(scaled) => self.take(scaled, N::from(0)),
             Add(scaled) => self.take(scaled, self.value(scaled.target)),
             Sac(scaled) => self.store(scaled, false),
             SacR(scaled) => self.store(scaled, true),
@@ -260,9 +335,9 @@ impl Ledger<'_> {
         }
     }
 
-    fn result(&mut self, target: Target, exact: i128) -> Effect {
-        self.check(target, exact)?;
-        self.keep(target, exact);
+    fn result(&mut self, target: Target, exact: N) -> Effect {
+        let kept = self.kept(target, exact)?;
+        self.keep(target, kept);
         Ok(Some(target))
     }
 
@@ -271,14 +346,14 @@ impl Ledger<'_> {
         if by.abs() > 16 {
             return Err(Stop::Blocked(Trap::ShiftTooFar));
         }
-        self.result(target, exact::scaled(self.value(target), by))
+        self.result(target, exact::scaled(&self.value(target), by as i32))
     }
 
     /// Kinds 1 to 4 and 7.
     fn prefetching(&mut self, operation: Operation) -> Effect {
         use Operation::*;
         let (target, exact, prefetch, back) = match operation {
-            Clr(target, prefetch, back) => (target, Some(0), prefetch, back),
+            Clr(target, prefetch, back) => (target, Some(N::from(0)), prefetch, back),
             Mpy(target, factors, prefetch) => {
                 let exact = self.product(factors);
                 (target, Some(exact), prefetch, WriteBack::None)
@@ -297,40 +372,38 @@ impl Ledger<'_> {
         let w = &self.state.w;
         let arrivals = prefetch::fetch(prefetch, w, self.settings, &self.memory)?;
         let destination = write_back::destination(back, w, self.settings, &self.memory)?;
-        if let Some(exact) = exact {
-            self.check(target, exact)?;
-        }
+        let kept = exact.map(|exact| self.kept(target, exact)).transpose()?;
         if let Some(destination) = destination {
             self.store_value(self.value(target.other()), true, destination);
         }
         arrivals.land(&mut self.state.w);
-        if let Some(exact) = exact {
-            self.keep(target, exact);
-        }
-        Ok(exact.map(|_| target))
+        Ok(kept.map(|kept| {
+            self.keep(target, kept);
+            target
+        }))
     }
 
     /// Kinds 5 and 6.
-    fn distance(&mut self, target: Target, exact: i128, difference: Difference) -> Effect {
+    fn distance(&mut self, target: Target, exact: N, difference: Difference) -> Effect {
         let w = &self.state.w;
         let arrivals = prefetch::fetch_difference(difference, w, self.settings, &self.memory)?;
-        self.check(target, exact)?;
+        let kept = self.kept(target, exact)?;
         arrivals.land(&mut self.state.w);
-        self.keep(target, exact);
+        self.keep(target, kept);
         Ok(Some(target))
     }
 
     /// Kinds 12 and 13.
-    fn take(&mut self, scaled: Scaled, to: i128) -> Effect {
+    fn take(&mut self, scaled: Scaled, to: N) -> Effect {
         let w = &self.state.w;
         let fetched = operand::fetch(scaled.operand, w, self.settings, &self.memory)?;
         let word = exact::factor(fetched.word, Reading::Signed) * 65_536;
-        let exact = to + exact::scaled(word, i128::from(scaled.shift));
-        self.check(scaled.target, exact)?;
+        let term = exact::scaled(&word, i32::from(scaled.shift));
+        let kept = self.kept(scaled.target, to + N::from(term))?;
         if let Some(moved) = fetched.moved {
             moved.land(&mut self.state.w);
         }
-        self.keep(scaled.target, exact);
+        self.keep(scaled.target, kept);
         Ok(Some(scaled.target))
     }
 
@@ -338,21 +411,21 @@ impl Ledger<'_> {
     fn store(&mut self, scaled: Scaled, is_rounded: bool) -> Effect {
         let w = &self.state.w;
         let destination = operand::destination(scaled.operand, w, self.settings, &self.memory)?;
-        let value = exact::scaled(self.value(scaled.target), i128::from(scaled.shift));
+        let value = exact::scaled(&self.value(scaled.target), i32::from(scaled.shift));
         self.store_value(value, is_rounded, destination);
         Ok(None)
     }
 
     /// Store an exact scaled value and list it.
-    fn store_value(&mut self, value: i128, is_rounded: bool, destination: Destination) {
-        let result = exact::stored(value, is_rounded, self.state.mode);
-        let word = exact::word(result, self.state.mode);
+    fn store_value(&mut self, value: N, is_rounded: bool, destination: Destination) {
+        let result = exact::stored(&value, is_rounded, self.state.mode);
+        let word = exact::word(&result, self.state.mode);
         self.stores.push(ListedStore {
             step: self.steps + 1,
             place: destination.place,
             value,
             word,
-            limiting_needed: exact::needs_limiting(result),
+            limiting_needed: exact::needs_limiting(&result),
             rounded: is_rounded,
         });
         let stored = word.rem_euclid(65_536) as u16;

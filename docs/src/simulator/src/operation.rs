@@ -188,6 +188,34 @@ impl Operation {
         }
     }
 
+    /// b6 of kinds 1, 3, 4, 7; none for other kinds.
+    pub fn write_back(&self) -> WriteBack {
+        use Operation::*;
+        match *self {
+            Clr(_, _, back) | Mac(_, _, _, back) | Msc(_, _, _, back) | Movsac(_, _, back) => back,
+            _ => WriteBack::None,
+        }
+    }
+
+    /// The accumulator that is written, by kinds 1 to 6 and 8 to 13.
+    pub fn written(&self) -> Option<Target> {
+        use Operation::*;
+        match *self {
+            Clr(target, ..)
+            | Mpy(target, ..)
+            | Mac(target, ..)
+            | Msc(target, ..)
+            | Ed(target, ..)
+            | Edac(target, ..)
+            | AddBoth(target)
+            | Subtract(target)
+            | Negate(target)
+            | ShiftBy(target, _) => Some(target),
+            Lac(scaled) | Add(scaled) => Some(scaled.target),
+            _ => None,
+        }
+    }
+
     pub fn is_repeat(&self) -> bool {
         matches!(
             self,

@@ -4,9 +4,10 @@
 //! value.
 
 mod common;
-use common::{end_alike, engine_word, ledger_of};
+use common::{end_alike, engine_word};
 
 use simulator::cases::Case;
+use simulator::congruence::ledger_of;
 use simulator::generate::case::{accepted_run, candidate};
 use simulator::generate::random::Random;
 use simulator::ledger::{LedgerEnding, LedgerOutcome, ListedStore};

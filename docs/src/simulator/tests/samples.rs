@@ -3,11 +3,12 @@
 
 mod common;
 mod mnemonic;
-use common::{end_alike, engine_word, ledger_of, stored_assembly, stored_sample};
+use common::{end_alike, engine_word, stored_assembly, stored_sample};
 use mnemonic::mnemonic;
 
 use simulator::assemble::assemble_text;
 use simulator::cases::{bytes_of, line, Case};
+use simulator::congruence::ledger_of;
 use simulator::file::check_file;
 use simulator::ledger::LedgerEnding;
 use simulator::samples::{case_of, NAMES};

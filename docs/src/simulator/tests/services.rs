@@ -184,7 +184,7 @@ impl Seen {
             };
             walk(&case, |operation, _| {
                 rounded |= operation.kind() == 15;
-                written_back |= writes_back(operation);
+                written_back |= operation.write_back() != WriteBack::None;
                 changed |= operation.kind() == 24;
             });
         }
@@ -204,16 +204,6 @@ fn has_other_loops(state: &State, operations: &[Operation]) -> bool {
 
 fn is_bound_store(store: &ListedStore) -> bool {
     store.rounded && !store.limiting_needed
-}
-
-fn writes_back(operation: &Operation) -> bool {
-    use Operation::*;
-    match operation {
-        Clr(_, _, back) | Mac(_, _, _, back) | Msc(_, _, _, back) | Movsac(_, _, back) => {
-            *back != WriteBack::None
-        }
-        _ => false,
-    }
 }
 
 /// A service for point 3, or now and then one that may have kind 25 in its program

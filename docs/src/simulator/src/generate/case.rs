@@ -58,15 +58,20 @@ fn budget(random: &mut Random) -> u32 {
 pub fn candidate(random: &mut Random, clears: bool) -> Case {
     let layout = Layout::random(random);
     let style = Style::random(random, clears);
+    styled(random, &layout, style)
+}
+
+/// One accepted run of a program of this style.
+pub fn styled(random: &mut Random, layout: &Layout, style: Style) -> Case {
     let count = operation_count(random);
-    let operations = program(random, &layout, style, count);
+    let operations = program(random, layout, style, count);
     Case {
         what: What::Run,
         file: file_of(&operations),
         memory: layout.memory(random),
         budget: budget(random),
         settings: layout.settings,
-        state: start::state(random, &layout, &operations, style.indexed_y),
+        state: start::state(random, layout, &operations, style.indexed_y),
     }
 }
 

@@ -10,6 +10,7 @@ pub mod edges;
 pub mod forms;
 pub mod layout;
 pub mod misses;
+pub mod onward;
 pub mod ops;
 pub mod places;
 pub mod program;

@@ -15,6 +15,9 @@ pub struct Style {
     pub clears: bool,
     /// Kind 24 may stand in it.
     pub mode_changes: bool,
+    /// Kinds 11, 14, 15 and write-back, which look at more than the low bits of an
+    /// accumulator, may stand in it.
+    pub upper_bits: bool,
     /// In a hundred operations, so many with any register at all.
     pub wildness: usize,
     /// W11 + W13 is a Y address, so W13 is no pointer.
@@ -30,10 +33,20 @@ impl Style {
         Style {
             clears,
             mode_changes: random.percent(40),
+            upper_bits: true,
             wildness: random.pick(&[0, 0, 0, 1, 3]),
             indexed_y: random.percent(20),
             depth: random.pick(&[0, 1, 1, 2, 2, 3, 4, 4, 6]),
             short_loops: random.percent(60),
+        }
+    }
+
+    /// Without anything that wish 12 bars.
+    pub fn onward(random: &mut Random) -> Style {
+        Style {
+            mode_changes: false,
+            upper_bits: false,
+            ..Style::random(random, false)
         }
     }
 }

@@ -39,6 +39,7 @@ fn random_kind(maker: &mut Maker) -> u8 {
             return match kind {
                 24 if !maker.style.mode_changes => 16,
                 25 if !maker.style.clears => 16,
+                11 | 14 | 15 if !maker.style.upper_bits => 8,
                 _ => kind,
             };
         }
@@ -159,6 +160,7 @@ fn difference(maker: &mut Maker) -> Difference {
 fn write_back(maker: &mut Maker) -> WriteBack {
     let choice = maker.random.below(100);
     match choice {
+        _ if !maker.style.upper_bits => WriteBack::None,
         0..=5 => WriteBack::ToW13,
         6..=45 if !maker.style.indexed_y => WriteBack::ToMemory,
         _ => WriteBack::None,

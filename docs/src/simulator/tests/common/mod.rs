@@ -3,7 +3,9 @@
 
 use simulator::cases::{Case, What};
 use simulator::generate::random::Random;
+use simulator::integer::Integer;
 use simulator::ledger::{LedgerEnding, LedgerOutcome, LedgerState, ListedStore};
+use simulator::whole::Whole;
 use simulator::{ledger, Outcome, Settings, State};
 
 pub type Op = [u8; 8];
@@ -349,6 +351,21 @@ impl Bench {
     }
 }
 
+/// A whole number by its decimal digits, without sign.
+pub fn decimal(digits: &str) -> Integer {
+    let digits = digits
+        .bytes()
+        .map(|byte| Integer::from(i128::from(byte - b'0')));
+    digits.fold(Integer::from(0), |number, digit| {
+        number.times_power(3) + number.times_power(1) + digit
+    })
+}
+
+/// 2^n.
+pub fn power(n: u32) -> Integer {
+    Integer::from(1).times_power(n)
+}
+
 /// The ending of a trap by its number.
 pub fn trap(number: u8) -> simulator::Ending {
     use simulator::Trap::*;
@@ -362,17 +379,6 @@ pub fn trap(number: u8) -> simulator::Ending {
             OverflowA,
             OverflowB,
         ][usize::from(number) - 1],
-    )
-}
-
-/// The ledger from the start of a case.
-pub fn ledger_of(case: &Case) -> LedgerOutcome {
-    simulator::ledger_run(
-        &case.file,
-        &case.settings,
-        &case.state,
-        &case.memory,
-        case.budget,
     )
 }
 

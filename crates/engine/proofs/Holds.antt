@@ -1,0 +1,23 @@
+-- A program holds no such operation exactly where the operation at pc is never such, wherever pc stands. Assumes nothing.
+use Prim.Native.Nat.{ℕ, zero, suc}
+use mathlib.Core.Bool.{Bool, false}
+use mathlib.Core.List.{List, [], _∷_}
+use mathlib.Core.Path.{_≡_, refl}
+use Rattle.integers.proofs.Whole.{neither}
+use Rattle.operations.specs.declared.operation.Operation.{Operation}
+use Rattle.operations.specs.declared.operation.Operation.the-variants.{EndEarly}
+use Rattle.machine.specs.Step.{operationAt}
+use Rattle.engine.specs.Holds.{holds}
+
+-- past a program's end stands end early
+pub holds-none : (isSuch : Operation → Bool) → isSuch EndEarly ≡ false → (p : List Operation) (i : ℕ) → holds isSuch p ≡ false
+    → isSuch (operationAt p i) ≡ false
+unfolding holds
+holds-none isSuch past [] i h = past
+holds-none isSuch past (o ∷ p) zero h = neither (isSuch o) (holds isSuch p) h .0
+holds-none isSuch past (o ∷ p) (suc i) h = holds-none isSuch past p i (neither (isSuch o) (holds isSuch p) h .1)
+
+pub none-holds : (isSuch : Operation → Bool) (p : List Operation) → ((i : ℕ) → isSuch (operationAt p i) ≡ false) → holds isSuch p ≡ false
+unfolding holds
+none-holds isSuch [] h = refl
+none-holds isSuch (o ∷ p) h = rw (h zero) (none-holds isSuch p (λ i. h (suc i)))
