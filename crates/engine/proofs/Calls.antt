@@ -83,9 +83,9 @@ module _ (file : List ℕ) (settings : Settings) (s : State) (memory : List ℕ)
             λ _ none-clears clear.
             rw is (exact-sums (programOf file) settings s memory budget (file-listed file accepted) (typed .registers) none-clears clear);
         wraps =
-            λ _ none-barred off quiet.
+            λ _ none-barred off untrapped.
             let stands = run-fit none typed ram .stands in
-            rw is (wraps (programOf file) settings none-barred quiet s memory budget off (stands .a) (stands .b));
+            rw is (wraps (programOf file) settings none-barred untrapped s memory budget off (stands .a) (stands .b));
       }
 
 -- two calls in a row, by their contracts alone: what an accepted call returned, however it ended, begins a run
@@ -108,8 +108,8 @@ pub call-wraps : (file : List ℕ) (settings : Settings) (s : State) (memory : L
     × (after ≡ y .machine .memory)
     × (r .steps ≡ y .steps)
     × (ended (r .ending) ≡ y .stop)
-call-wraps file settings s memory budget r after none none-barred off quiet h =
-    let w = h .wraps none none-barred off quiet in
+call-wraps file settings s memory budget r after none none-barred off untrapped h =
+    let w = h .wraps none none-barred off untrapped in
     let m = w .matches in (
       λ i.
           record {

@@ -9,7 +9,7 @@ use Rattle.operations.specs.declared.operation.Operation.the-variants.{EndEarly
 use Rattle.machine.specs.Step.{operationAt}
 use Rattle.engine.specs.Holds.{holds}
 
--- past a program's end stands end early
+-- where none is held, none is at pc; past a program's end stands end early
 pub holds-none : (isSuch : Operation → Bool) → isSuch EndEarly ≡ false → (p : List Operation) (i : ℕ) → holds isSuch p ≡ false
     → isSuch (operationAt p i) ≡ false
 unfolding holds
@@ -17,6 +17,7 @@ holds-none isSuch past [] i h = past
 holds-none isSuch past (o ∷ p) zero h = neither (isSuch o) (holds isSuch p) h .0
 holds-none isSuch past (o ∷ p) (suc i) h = holds-none isSuch past p i (neither (isSuch o) (holds isSuch p) h .1)
 
+-- and back: where none is at any pc, none is held
 pub none-holds : (isSuch : Operation → Bool) (p : List Operation) → ((i : ℕ) → isSuch (operationAt p i) ≡ false) → holds isSuch p ≡ false
 unfolding holds
 none-holds isSuch [] h = refl

@@ -32,12 +32,12 @@ going-matches x y h =
       memory = ap (λ (z : Ledger). z .memory) (sym (h .rest));
     }
 
-module _ (p : List Operation) (settings : Settings) (none : holdsBarred p ≡ false) (quiet : settings .traps ≡ 0) where
+module _ (p : List Operation) (settings : Settings) (none : holdsBarred p ≡ false) (untrapped : settings .traps ≡ 0) where
   -- the ledger may carry numbers of its own on from an earlier run
   pub run-going : (n k : ℕ) (x : Engine) (y : Ledger) → Going x y → RunsAlike Going (engineFrom p settings n k x) (exactFrom goesOn p settings n k y)
   run-going =
       run-alike Going (engineDone p) (ledgerDone p) (λ k x. engineTurn p settings x) (exactTurn goesOn p settings)
-      (λ x y h. ap (λ (z : Ledger). eqb (z .core .pc) (length p)) (sym (h .rest))) (step-going p settings none quiet)
+      (λ x y h. ap (λ (z : Ledger). eqb (z .core .pc) (length p)) (sym (h .rest))) (step-going p settings none untrapped)
 
   pub wraps : (s : State) (memory : List ℕ) (budget : ℕ) → isSaturating (s .core .mode) ≡ false
       → let x = engineRun p settings budget s memory in

@@ -105,7 +105,7 @@ module _ (p : List Operation) (o : Operation) (leaves : (word : ℕ) → modeAft
 
 -- ---- a step
 
-module _ (p : List Operation) (settings : Settings) (none : holdsBarred p ≡ false) (quiet : settings .traps ≡ 0) where
+module _ (p : List Operation) (settings : Settings) (none : holdsBarred p ≡ false) (untrapped : settings .traps ≡ 0) where
   -- no operation at pc is barred
   none-barred : (i : ℕ) → isBarred (operationAt p i) ≡ false
   unfolding isBarred encodeOf
@@ -126,7 +126,7 @@ module _ (p : List Operation) (settings : Settings) (none : holdsBarred p ≡ fa
       (over (ended (Trap (v .effect .trap)))))
   unfolding completed
   work-going o leaves x l a b oa ob off ha hb u v h =
-      rw (sym (h .trap), sym (h .registers), sym (h .memory (x .memory)), quiet)
+      rw (sym (h .trap), sym (h .registers), sym (h .memory (x .memory)), untrapped)
       (same-test (λ (r : Step) (t : Turn Ledger). TurnsAlike Going (turnOf r) t) (eqb (u .effect .trap) 0)
       (λ e. settle-going p o leaves (h .exact) (stateAfter (modeOf (x .state .core .mode)) u (x .state)) _ l a b oa ob off ha hb) (λ e. refl))
 

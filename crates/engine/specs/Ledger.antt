@@ -124,6 +124,6 @@ exactRun beyond p settings budget c memory = exactFrom beyond p settings budget 
 abbrev pub ledgerRun : List Operation → Settings → ℕ → Core → List ℕ → Result Ledger
 ledgerRun p settings budget c memory = exactRun stops p settings budget c memory
 
--- the ledger that goes on
+-- the ledger that goes on (wish 12)
 abbrev pub onwardRun : List Operation → Settings → ℕ → Core → List ℕ → Result Ledger
 onwardRun p settings budget c memory = exactRun goesOn p settings budget c memory

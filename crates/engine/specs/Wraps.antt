@@ -35,8 +35,8 @@ isSaturating word = saturates (modeOf word) A || saturates (modeOf word) B
 
 -- ---- the statement
 
--- the engine x and the ledger y: A and B are its numbers modulo 2^40, all else but the flags is equal. O flags are not compared, since its own are those of
--- the numbers that it keeps; S flags it has none
+-- the engine x and the ledger y: A and B are the ledger's numbers modulo 2^40; registers, pc, loops, repeat left, mode word and memory are equal. O flags
+-- are not compared: the ledger's are those of its own numbers. It has no S flags
 pub record Matches (x : Engine) (y : Ledger) : Type 0 where
   pub a : SameModulo 40 (x .state .core .a) (y .core .a)
   pub b : SameModulo 40 (x .state .core .b) (y .core .b)
@@ -50,7 +50,7 @@ pub record Matches (x : Engine) (y : Ledger) : Type 0 where
 -- the engine's run x and the run y of the ledger that goes on, under the same budget
 pub record Wraps (x : Result Engine) (y : Result Ledger) : Type 0 where
   pub matches : Matches (x .machine) (y .machine)
-  -- A and B are 40 bits wide: they are the low 40 bits of its numbers, read as signed
+  -- A and B are 40 bits wide: they are the low 40 bits of the ledger's numbers, read as signed
   pub a : x .machine .state .core .a ≡ signedOf 40 (lowBits 40 (y .machine .core .a))
   pub b : x .machine .state .core .b ≡ signedOf 40 (lowBits 40 (y .machine .core .b))
   pub steps : x .steps ≡ y .steps
