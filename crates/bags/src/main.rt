@@ -1,5 +1,6 @@
 // Services from standard input, each answered by a line on standard output (docs/SERVICE.md has both forms).
 use address::word::WordIndex;
+use engine::ending::Ending;
 use libc::STDIN_FILENO;
 use service::call::ServiceOutcome;
 use service::call::Window;
@@ -7,7 +8,6 @@ use service::call::serve;
 use stream::header;
 use stream::line;
 use stream::memory::fill;
-use stream::number::print_number;
 use stream::number::print_text;
 ghost use mathlib.Core.Path.{_≡_};
 ghost use Prim.Native.Nat.{_*_, _≤_};
@@ -152,8 +152,7 @@ fn print_service(r: ServiceOutcome, memory: &[u16], bags: usize, endings: &[u8],
     if r.refusal == 0 {
         print_text(b"served");
     } else {
-        print_text(b"refused");
-        print_number(r.refusal as u64);
+        line::print_ending(Ending::Refused(r.refusal));
     }
     line::print_state(after, memory);
     line::print_bytes_check(endings);
@@ -166,7 +165,7 @@ fn print_service(r: ServiceOutcome, memory: &[u16], bags: usize, endings: &[u8],
 
 // The service, and its line.
 fn answer(
-    head: [u8; 112],
+    head: [u8; 320],
     file: &[u8],
     memory: &mut [u16],
     window: Window,
@@ -193,7 +192,7 @@ fn answer(
 
 // The answer, with as much of each slice as the service asks for.
 fn answer_in_parts(
-    head: [u8; 112],
+    head: [u8; 320],
     file: &[u8],
     memory: &mut [u16],
     sizes: Sizes,
@@ -264,7 +263,7 @@ fn most_bags(sizes: Sizes) -> usize
 }
 
 // The bags and the answer, unless the bags are too many; false where the program ends.
-fn bags(head: [u8; 112], file: &[u8], memory: &mut [u16], sizes: Sizes) -> bool {
+fn bags(head: [u8; 320], file: &[u8], memory: &mut [u16], sizes: Sizes) -> bool {
     if BAGS < most_bags(sizes) {
         return too_large();
     }
@@ -308,7 +307,7 @@ fn read_first(file: &mut [u8], memory: &mut [u16], numbers: &mut [u32]) -> bool
 }
 
 // What follows the header; false where the program ends.
-fn rest(head: [u8; 112], file: &mut [u8], memory: &mut [u16]) -> bool
+fn rest(head: [u8; 320], file: &mut [u8], memory: &mut [u16]) -> bool
     requires { ⌜ length (now memory) ≤ 32768 ⌝ }
 {
     let mut numbers = [0u32; 7];
@@ -320,7 +319,7 @@ fn rest(head: [u8; 112], file: &mut [u8], memory: &mut [u16]) -> bool
 
 // What follows the header, with as much of each slice as it asks for; false where the program ends.
 fn rest_in_parts(
-    head: [u8; 112],
+    head: [u8; 320],
     size: usize,
     count: usize,
     file: &mut [u8],
@@ -334,7 +333,7 @@ fn rest_in_parts(
 }
 
 // A service after its header, unless file or memory is too large; false where the program ends.
-fn after_header(head: [u8; 112]) -> bool {
+fn after_header(head: [u8; 320]) -> bool {
     let size = header::file_size(head);
     let count = header::memory_words(head);
     if FILE < size {
@@ -350,8 +349,8 @@ fn after_header(head: [u8; 112]) -> bool {
 
 // One service; false at the end of the input and where the program ends.
 fn service() -> bool {
-    let mut head = [0u8; 112];
-    let got = io::read_full(STDIN_FILENO, &mut head);
+    let mut head = [0u8; 320];
+    let got = io::read_full(STDIN_FILENO, &mut head[0..112]);
     if got == 0 {
         return false;
     }

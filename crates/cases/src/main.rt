@@ -1,5 +1,6 @@
-// Cases from standard input, each answered by a line on standard output: a run, a load or a write.
+// Cases from standard input, each answered by a line on standard output: a run, a load, a write or a join, in the short form or the long one.
 use engine::call::run;
+use join::call::join;
 use libc::STDIN_FILENO;
 use program::file::load;
 use program::write::write;
@@ -7,24 +8,33 @@ use stream::header;
 use stream::line;
 use stream::memory::fill;
 use stream::number::print_text;
+ghost use mathlib.Core.Path.{_≡_};
 ghost use Prim.Native.Nat.{_*_, _≤_};
 ghost use lib.ListN.{length};
 
-// A run, and its line.
-fn answer_run(head: [u8; 112], file: &[u8], bytes: &[u8], memory: &mut [u16])
+// What a case asks for stands in byte 111 of its header. From here on the case has the long form.
+const LONG: u8 = 16;
+// A run in the long form.
+const RUN: u8 = 16;
+// A join.
+const JOIN: u8 = 17;
+
+// A run, and its line, which has more fields in the long form.
+fn answer_run(head: [u8; 320], file: &[u8], bytes: &[u8], memory: &mut [u16])
     requires { ⌜ 2 * length (now memory) ≤ length (now bytes) ⌝ }
 {
     fill(memory, bytes);
     let settings = header::settings(head);
     let state = header::state(head);
     let outcome = run(file, settings, state, memory, header::budget(head));
-    let ending = outcome.ending;
-    let after = outcome.state;
-    line::print_ending(ending);
-    line::print_rest(outcome.steps as u64, after, memory);
+    if head[111] < LONG {
+        line::print_run(outcome, memory);
+    } else {
+        line::print_long_run(outcome, memory);
+    }
 }
 
-// What stands in the lent slice before a load or a write.
+// What stands in the lent slice before a load, a write or a join.
 fn count_up(slice: &mut [u8]) {
     let mut i = 0;
     while i < slice.len() {
@@ -45,13 +55,11 @@ fn answer_filled(what: u8, input: &[u8], slice: &mut [u8]) {
     }
 }
 
-// The bytes of lent output: R of a load or a write, none of a run.
-fn room(head: [u8; 112]) -> usize {
-    if is_filled(head[111]) {
-        header::budget(head) as usize
-    } else {
-        0
-    }
+// A join, and its line.
+fn answer_join(first: &[u8], second: &[u8], out: &mut [u8]) {
+    count_up(out);
+    let joined = join(first, second, out);
+    line::print_filled(b"joined", joined, out);
 }
 
 // What a case asks for is a load (1) or a write (2).
@@ -59,14 +67,43 @@ fn is_filled(what: u8) -> bool {
     (what == 1) | (what == 2)
 }
 
+// What a case asks for is a run.
+fn is_run(what: u8) -> bool {
+    (what < LONG) | (what == RUN)
+}
+
+// The bytes of lent output: R of a load, a write or a join, none of the others.
+fn room(head: [u8; 320]) -> usize {
+    let what = head[111];
+    if is_filled(what) {
+        header::budget(head) as usize
+    } else if what == JOIN {
+        header::output_room(head)
+    } else {
+        0
+    }
+}
+
 // The answer to a case.
-fn answer(head: [u8; 112], file: &[u8], bytes: &[u8], memory: &mut [u16], out: &mut [u8])
+fn answer(
+    head: [u8; 320],
+    file: &[u8],
+    second: &[u8],
+    bytes: &[u8],
+    memory: &mut [u16],
+    out: &mut [u8],
+)
     requires { ⌜ 2 * length (now memory) ≤ length (now bytes) ⌝ }
 {
-    if is_filled(head[111]) {
-        answer_filled(head[111], file, out);
-    } else {
+    let what = head[111];
+    if is_filled(what) {
+        answer_filled(what, file, out);
+    } else if is_run(what) {
         answer_run(head, file, bytes, memory);
+    } else if what == JOIN {
+        answer_join(file, second, out);
+    } else {
+        print_text(b"unknown\n");
     }
 }
 
@@ -76,70 +113,127 @@ fn stop(text: &[u8]) -> bool {
     false
 }
 
-// The rest of a case after its header, and its answer; false where the program ends.
+// Whether all of the slice was read.
+fn read(bytes: &mut [u8]) -> bool {
+    let n = bytes.len();
+    io::read_full(STDIN_FILENO, bytes) == n
+}
+
+// The F bytes, the G bytes and the bytes of the M words; false where the input breaks off.
+fn read_parts(file: &mut [u8], second: &mut [u8], bytes: &mut [u8]) -> bool {
+    if !read(file) {
+        return false;
+    }
+    if !read(second) {
+        return false;
+    }
+    read(bytes)
+}
+
+// A case, with as much of each slice as it asks for, and its answer; false where the input breaks off.
 fn rest(
-    head: [u8; 112],
+    head: [u8; 320],
     file: &mut [u8],
+    second: &mut [u8],
+    bytes: &mut [u8],
+    memory: &mut [u16],
+    out: &mut [u8],
+) -> bool
+    requires { ⌜ 2 * length (now memory) ≤ length (now bytes) ⌝ }
+{
+    if !read_parts(file, second, bytes) {
+        return stop(b"short\n");
+    }
+    answer(head, file, second, bytes, memory, out);
+    true
+}
+
+// A case after its header, unless it asks for too much; false where the program ends.
+fn after_header(
+    head: [u8; 320],
+    file: &mut [u8],
+    second: &mut [u8],
     bytes: &mut [u8],
     memory: &mut [u16],
     out: &mut [u8],
 ) -> bool {
-    let size = header::file_size(head);
-    let words = header::memory_words(head);
-    let room = room(head);
-    if file.len() < size {
+    let f = header::file_size(head);
+    let g = header::second_size(head);
+    let m = header::memory_words(head);
+    let r = room(head);
+    if file.len() < f {
         return stop(b"toolarge\n");
     }
-    if memory.len() < words {
+    if second.len() < g {
         return stop(b"toolarge\n");
     }
-    if bytes.len() < 2 * words {
+    if memory.len() < m {
         return stop(b"toolarge\n");
     }
-    if out.len() < room {
+    if bytes.len() < 2 * m {
         return stop(b"toolarge\n");
     }
-    if io::read_full(STDIN_FILENO, &mut file[0..size]) < size {
-        return stop(b"short\n");
+    if out.len() < r {
+        return stop(b"toolarge\n");
     }
-    if io::read_full(STDIN_FILENO, &mut bytes[0..2 * words]) < 2 * words {
-        return stop(b"short\n");
-    }
-    answer(
+    rest(
         head,
-        &file[0..size],
-        &bytes[0..2 * words],
-        &mut memory[0..words],
-        &mut out[0..room],
-    );
-    true
+        &mut file[0..f],
+        &mut second[0..g],
+        &mut bytes[0..2 * m],
+        &mut memory[0..m],
+        &mut out[0..r],
+    )
+}
+
+// The bytes of a header that asks for this.
+fn header_size(what: u8) -> usize {
+    if what < LONG { 112 } else { 320 }
+}
+
+// A header of either form; how many of its bytes were read.
+fn read_head(head: &mut [u8]) -> usize
+    requires { ⌜ length (now head) ≡ 320 ⌝ }
+{
+    let got = io::read_full(STDIN_FILENO, &mut head[0..112]);
+    if head[111] < LONG {
+        return got;
+    }
+    got + io::read_full(STDIN_FILENO, &mut head[112..320])
 }
 
 // One case; false at the end of the input and where the program ends.
-fn case(file: &mut [u8], bytes: &mut [u8], memory: &mut [u16], out: &mut [u8]) -> bool {
-    let mut head = [0u8; 112];
-    let got = io::read_full(STDIN_FILENO, &mut head);
+fn case(
+    file: &mut [u8],
+    second: &mut [u8],
+    bytes: &mut [u8],
+    memory: &mut [u16],
+    out: &mut [u8],
+) -> bool {
+    let mut head = [0u8; 320];
+    let got = read_head(&mut head);
     if got == 0 {
         return false;
     }
-    if got < 112 {
+    if got < header_size(head[111]) {
         return stop(b"short\n");
     }
-    rest(head, file, bytes, memory, out)
+    after_header(head, file, second, bytes, memory, out)
 }
 
 // All cases: the count of turns is one that no input uses up.
-fn cases(file: &mut [u8], bytes: &mut [u8], memory: &mut [u16], out: &mut [u8]) {
+fn cases(file: &mut [u8], second: &mut [u8], bytes: &mut [u8], memory: &mut [u16], out: &mut [u8]) {
     let mut turns = u64::MAX;
-    while turns > 0 && case(file, bytes, memory, out) {
+    while turns > 0 && case(file, second, bytes, memory, out) {
         turns -= 1;
     }
 }
 
 fn main() {
     let mut file = [0u8; 65536];
+    let mut second = [0u8; 65536];
     let mut bytes = [0u8; 65536];
     let mut memory = [0u16; 32768];
     let mut out = [0u8; 65536];
-    cases(&mut file, &mut bytes, &mut memory, &mut out);
+    cases(&mut file, &mut second, &mut bytes, &mut memory, &mut out);
 }

@@ -12,6 +12,7 @@ use Rattle.integers.specs.Bits.{signedOf}
 use Rattle.accumulator.specs.Shift.{shiftOf, shiftAllowed}
 use Rattle.accumulator.specs.declared.mode.Mode.{Mode}
 use Rattle.accumulator.specs.declared.mode.Target.{Target}
+use Rattle.accumulator.specs.declared.mode.Target.the-variants.{A, B}
 use Rattle.operations.specs.Listed.{isListedOperand, isRegister}
 use Rattle.operations.specs.declared.operation.Operand.{Operand}
 use Rattle.operations.specs.declared.operation.Operand.the-variants.{Register, Memory}
@@ -21,8 +22,9 @@ use Rattle.operations.specs.declared.operation.Operation.{Operation}
 use Rattle.operations.specs.declared.operation.Operation.the-variants.{MacClass as MacOperation, AddAccumulators, Subtract, Negate, Shift, Lac, Add, Sac}
 use Rattle.operations.specs.declared.operation.Operation.the-variants.{SacR, Literal, Load, Store, Repeat, RepeatRegister, Do, DoRegister, EndEarly, SetMode}
 use Rattle.operations.specs.declared.operation.Operation.the-variants.{ClearSaturation}
-use Rattle.state.specs.State.{register, accumulatorOf, otherOf}
+use Rattle.state.specs.State.{register, accumulatorOf, otherOf, goTo}
 use Rattle.state.specs.declared.settings.Settings.{Settings}
+use Rattle.state.specs.declared.state.Loops.{Loops}
 use Rattle.state.specs.declared.state.Core.{Core}
 use Rattle.effects.specs.Access.{operandAccess, wordAt, changed}
 use Rattle.effects.specs.Effect.{Work, quiet, blocked, results, stores, unlessTrap}
@@ -113,3 +115,32 @@ module _ (s : Settings) (m : Mode) (c : Core) (memory : List ℕ) where
   trap-leaves EndEarly = λ h. refl
   trap-leaves (SetMode word) = λ h. refl
   trap-leaves ClearSaturation = λ h. refl
+
+-- ---- a work reads neither pc nor repeat left, and of the loops their number alone
+
+module _ (s : Settings) (m : Mode) (memory : List ℕ) (c : Core) (pc : ℕ) (l : Loops) (left : ℕ) where
+  accumulator-elsewhere : (t : Target) → accumulatorOf (goTo c pc l left) t ≡ accumulatorOf c t
+  accumulator-elsewhere A = refl
+  accumulator-elsewhere B = refl
+
+  pub work-elsewhere : l .depth ≡ c .loops .depth → (o : Operation) → workOf s m o (goTo c pc l left) memory ≡ workOf s m o c memory
+  unfolding workOf macWork shiftWork loadWork storeWork moveWork loopWork macExact
+  work-elsewhere same (MacOperation k) = rw (accumulator-elsewhere (k .target), accumulator-elsewhere (otherOf (k .target)))
+  work-elsewhere same (AddAccumulators t) = refl
+  work-elsewhere same (Subtract t) = rw (accumulator-elsewhere t, accumulator-elsewhere (otherOf t))
+  work-elsewhere same (Negate t) = rw (accumulator-elsewhere t)
+  work-elsewhere same (Shift t r) = rw (accumulator-elsewhere t)
+  work-elsewhere same (Lac t b2 o) = refl
+  work-elsewhere same (Add t b2 o) = rw (accumulator-elsewhere t)
+  work-elsewhere same (Sac t b2 o) = rw (accumulator-elsewhere t)
+  work-elsewhere same (SacR t b2 o) = rw (accumulator-elsewhere t)
+  work-elsewhere same (Literal r v) = refl
+  work-elsewhere same (Load r p post) = refl
+  work-elsewhere same (Store r p post) = refl
+  work-elsewhere same (Repeat n) = refl
+  work-elsewhere same (RepeatRegister r) = refl
+  work-elsewhere same (Do n last) = rw same
+  work-elsewhere same (DoRegister r last) = rw same
+  work-elsewhere same EndEarly = refl
+  work-elsewhere same (SetMode word) = refl
+  work-elsewhere same ClearSaturation = refl

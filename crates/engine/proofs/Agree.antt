@@ -217,7 +217,7 @@ module _ (p : List Operation) (settings : Settings) (none : holdsClear p ≡ fal
   run-agrees n k y =
       run-pairs (engineDone p) (ledgerDone p) (λ k. engineTurn p settings) (exactTurn stops p settings) (λ x y. x ≡ clear y) Agree
       (λ x y h. ap (engineDone p) h) (λ k e x y h. ap (λ (z : Engine). record { machine = z; steps = k; stop = ended e }) h)
-      (λ n k x y h on.
+      (λ n k x y e h on.
       subst (λ (z : Engine). Agree (after z k (engineFrom p settings n (suc k)) (engineTurn p settings z))
       (after y k (exactFrom stops p settings n (suc k)) (exactTurn stops p settings k y))) (sym h)
       (after-agrees k y (engineFrom p settings n (suc k)) (exactFrom stops p settings n (suc k))

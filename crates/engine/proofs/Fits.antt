@@ -62,7 +62,7 @@ module _ (p : List Operation) (placed : isPlaced p ≡ true) (ok : (i : ℕ) →
       let (ram, long) = stepped-ram s (x .memory) listed (h .stands) (h .ram, h .long) in
       record { stands = stepped-stands p placed settings s (x .memory) listed below (h .ram) (h .stands); ram = ram; long = long }
 
-  turn-fits : (x : Engine) → engineDone p x ≡ false → Fit p words x → Keeps (Fit p words) (Fit p words) (engineTurn p settings x)
+  pub turn-fits : (x : Engine) → engineDone p x ≡ false → Fit p words x → Keeps (Fit p words) (Fit p words) (engineTurn p settings x)
   unfolding engineTurn
   turn-fits x more h =
       let c = x .state .core in

@@ -1,8 +1,8 @@
 -- A program holds no such operation exactly where the operation at pc is never such, wherever pc stands. Assumes nothing.
 use Prim.Native.Nat.{ℕ, zero, suc}
-use mathlib.Core.Bool.{Bool, false}
-use mathlib.Core.List.{List, [], _∷_}
-use mathlib.Core.Path.{_≡_, refl}
+use mathlib.Core.Bool.{Bool, false, _||_, or-assoc}
+use mathlib.Core.List.{List, [], _∷_, _++_, map}
+use mathlib.Core.Path.{_≡_, refl, sym, ap, _∙_}
 use Rattle.integers.proofs.Whole.{neither}
 use Rattle.operations.specs.declared.operation.Operation.{Operation}
 use Rattle.operations.specs.declared.operation.Operation.the-variants.{EndEarly}
@@ -22,3 +22,17 @@ pub none-holds : (isSuch : Operation → Bool) (p : List Operation) → ((i : �
 unfolding holds
 none-holds isSuch [] h = refl
 none-holds isSuch (o ∷ p) h = rw (h zero) (none-holds isSuch p (λ i. h (suc i)))
+
+-- two programs one after the other hold what one of them holds
+pub holds-append : (isSuch : Operation → Bool) (p q : List Operation) → holds isSuch (p ++ q) ≡ (holds isSuch p || holds isSuch q)
+unfolding holds
+holds-append isSuch [] q = refl
+holds-append isSuch (o ∷ p) q =
+    ap (λ (t : Bool). isSuch o || t) (holds-append isSuch p q) ∙ sym (or-assoc (isSuch o) (holds isSuch p) (holds isSuch q))
+
+-- a program whose operations are changed to ones that are such exactly where they were
+pub holds-map : (isSuch : Operation → Bool) (f : Operation → Operation) → ((o : Operation) → isSuch (f o) ≡ isSuch o)
+    → (p : List Operation) → holds isSuch (map f p) ≡ holds isSuch p
+unfolding holds
+holds-map isSuch f same [] = refl
+holds-map isSuch f same (o ∷ p) = rw (same o, holds-map isSuch f same p)

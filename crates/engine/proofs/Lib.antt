@@ -1,4 +1,6 @@
 pub mod Opened
+pub mod Names
+pub mod NameExamples
 pub mod RunExamples
 pub mod OverflowExamples
 pub mod Table

@@ -80,7 +80,7 @@ module _ (p : List Operation) (settings : Settings) where
   run-unless =
       run-pairs (ledgerDone p) (ledgerDone p) (exactTurn stops p settings) (exactTurn goesOn p settings) (λ y y′. y ≡ y′) SameUnless
       (λ y y′ h. ap (ledgerDone p) h) (λ k e y y′ h never. rw h)
-      (λ n k y y′ h on.
+      (λ n k y y′ e h on.
       subst (λ (z : Ledger). SameUnless (after y k (exactFrom stops p settings n (suc k)) (exactTurn stops p settings k y))
       (after z k (exactFrom goesOn p settings n (suc k)) (exactTurn goesOn p settings k z))) h
       (after-unless k y (exactFrom stops p settings n (suc k)) (exactFrom goesOn p settings n (suc k)) (exactTurn stops p settings k y)

@@ -37,7 +37,7 @@ module _ (p : List Operation) (settings : Settings) (none : holdsBarred p ≡ fa
   pub run-going : (n k : ℕ) (x : Engine) (y : Ledger) → Going x y → RunsAlike Going (engineFrom p settings n k x) (exactFrom goesOn p settings n k y)
   run-going =
       run-alike Going (engineDone p) (ledgerDone p) (λ k x. engineTurn p settings x) (exactTurn goesOn p settings)
-      (λ x y h. ap (λ (z : Ledger). eqb (z .core .pc) (length p)) (sym (h .rest))) (step-going p settings none untrapped)
+      (λ x y h. ap (λ (z : Ledger). eqb (z .core .pc) (length p)) (sym (h .rest))) (λ k x y e. step-going p settings none untrapped k x y)
 
   pub wraps : (s : State) (memory : List ℕ) (budget : ℕ) → isSaturating (s .core .mode) ≡ false
       → let x = engineRun p settings budget s memory in

@@ -33,7 +33,6 @@ use Rattle.effects.specs.declared.access.Place.{Place}
 use Rattle.effects.specs.declared.access.Place.the-variants.{Register, Memory}
 use Rattle.machine.specs.Control.{controlOf, clears}
 use Rattle.machine.specs.Step.{operationAt}
-use Rattle.engine.specs.Ending.{numberOf, nameOf, codeOf}
 use Rattle.engine.specs.Run.{Stop, Result}
 use Rattle.engine.specs.Run.Stop.{ended, left}
 use Rattle.engine.specs.Engine.{Engine}
@@ -41,7 +40,7 @@ use Rattle.engine.specs.Ledger.{Entry, Ledger}
 use Rattle.engine.specs.Holds.{holds}
 use Rattle.engine.specs.Exact.{holdsClear, wordIn, storedAt}
 use Rattle.engine.specs.declared.ending.Ending.{Ending}
-use Rattle.engine.specs.declared.ending.Ending.the-variants.{Done, Spent, Trap, Refused}
+use Rattle.engine.specs.declared.ending.Ending.the-variants.{Done, Spent, Trap}
 use Rattle.engine.proofs.Opened.{engine, exact}
 use Rattle.engine.proofs.Holds.{none-holds}
 
@@ -745,18 +744,3 @@ clears-anywhere :
     × (holdsClear [] ≡ false)
 unfolding engine holds
 clears-anywhere = (refl, refl, refl, refl, refl, refl, refl, refl)
-
--- ---- endings
-
--- done, spent, trap7, refused1 in ASCII, and their numbers and codes
-names :
-    (map nameOf (Done ∷ Spent ∷ Trap 7 ∷ Refused 1 ∷ [])
-    ≡ (100 ∷ 111 ∷ 110 ∷ 101 ∷ 0 ∷ 0 ∷ 0 ∷ 0 ∷ [])
-    ∷ (115 ∷ 112 ∷ 101 ∷ 110 ∷ 116 ∷ 0 ∷ 0 ∷ 0 ∷ [])
-    ∷ (116 ∷ 114 ∷ 97 ∷ 112 ∷ 55 ∷ 0 ∷ 0 ∷ 0 ∷ [])
-    ∷ (114 ∷ 101 ∷ 102 ∷ 117 ∷ 115 ∷ 101 ∷ 100 ∷ 49 ∷ [])
-    ∷ [])
-    × (map numberOf (Done ∷ Spent ∷ Trap 7 ∷ Refused 1 ∷ []) ≡ 0 ∷ 0 ∷ 7 ∷ 1 ∷ [])
-    × (map codeOf (Done ∷ Spent ∷ Trap 1 ∷ Trap 7 ∷ Refused 1 ∷ Refused 15 ∷ []) ≡ 0x00 ∷ 0x10 ∷ 0x21 ∷ 0x27 ∷ 0x31 ∷ 0x3f ∷ [])
-unfolding nameOf numberOf codeOf
-names = (refl, refl, refl)

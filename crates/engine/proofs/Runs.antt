@@ -1,11 +1,12 @@
--- A run stays within its budget, what every step keeps it keeps, and two machines that step alike run alike: by induction on the budget left. Assumes
--- nothing.
-use Prim.Native.Nat.{ℕ, zero, suc, _+_, _≤_}
+-- A run stays within its budget, what every step keeps it keeps, two machines that step alike run alike, steps that map to steps make runs that map to
+-- runs, and a run goes on where another is done: by induction on the budget left. Assumes nothing.
+use Prim.Native.Nat.{ℕ, zero, suc, _+_, _-_, _≤_}
 use mathlib.Core.Bool.{Bool, true, false, cond}
-use mathlib.Core.Path.{_≡_, refl, ap}
+use mathlib.Core.Path.{_≡_, refl, sym, ap, _∙_}
+use native.Mathlib.Nat.{add-sub-cancel, add-suc, suc-add}
 use native.Mathlib.Omega.{arith}
 use Rattle.integers.proofs.Whole.{by-test, same-test}
-use Rattle.engine.specs.Run.{Turn, Result, after, run}
+use Rattle.engine.specs.Run.{Stop, isDone, Turn, Result, after, run}
 use Rattle.engine.specs.Run.Stop.{ended}
 use Rattle.engine.specs.Run.Turn.{over, last, next}
 use Rattle.engine.specs.declared.ending.Ending.{Ending}
@@ -63,14 +64,14 @@ module _ {S T : Type 0} (doneS : S → Bool) (doneT : T → Bool) (turnS : ℕ �
     (same-done : (s : S) (t : T) → R s t → doneS s ≡ doneT t)
     (ends : (k : ℕ) (e : Ending) (s : S) (t : T) → R s t
     → Q (record { machine = s; steps = k; stop = ended e }) (record { machine = t; steps = k; stop = ended e }))
-    (turns : (n k : ℕ) (s : S) (t : T) → R s t → ((s′ : S) (t′ : T) → R s′ t′ → Q (run doneS turnS n (suc k) s′) (run doneT turnT n (suc k) t′))
+    (turns : (n k : ℕ) (s : S) (t : T) → doneT t ≡ false → R s t → ((s′ : S) (t′ : T) → R s′ t′ → Q (run doneS turnS n (suc k) s′) (run doneT turnT n (suc k) t′))
     → Q (after s k (run doneS turnS n (suc k)) (turnS k s)) (after t k (run doneT turnT n (suc k)) (turnT k t))) where
   pub run-pairs : (n k : ℕ) (s : S) (t : T) → R s t → Q (run doneS turnS n k s) (run doneT turnT n k t)
   unfolding run
   run-pairs zero k s t h = rw (same-done s t h) (ends k (cond (doneT t) Done Spent) s t h)
   run-pairs (suc n) k s t h =
       rw (same-done s t h)
-      (same-test Q (doneT t) (λ e. ends k Done s t h) (λ e. turns n k s t h (λ s′ t′. run-pairs n (suc k) s′ t′)))
+      (same-test Q (doneT t) (λ e. ends k Done s t h) (λ e. turns n k s t e h (λ s′ t′. run-pairs n (suc k) s′ t′)))
 
 -- two turns that stop alike, or step to machines in R
 abbrev pub TurnsAlike : {S T : Type 0} → (S → T → Type 0) → Turn S → Turn T → Type 0
@@ -105,9 +106,93 @@ module _ {S T : Type 0} (R : S → T → Type 0) where
 
   module _ (doneS : S → Bool) (doneT : T → Bool) (turnS : ℕ → S → Turn S) (turnT : ℕ → T → Turn T)
       (same-done : (s : S) (t : T) → R s t → doneS s ≡ doneT t)
-      (step : (k : ℕ) (s : S) (t : T) → R s t → TurnsAlike R (turnS k s) (turnT k t)) where
+      (step : (k : ℕ) (s : S) (t : T) → doneT t ≡ false → R s t → TurnsAlike R (turnS k s) (turnT k t)) where
     pub run-alike : (n k : ℕ) (s : S) (t : T) → R s t → RunsAlike R (run doneS turnS n k s) (run doneT turnT n k t)
     run-alike =
         run-pairs doneS doneT turnS turnT R (RunsAlike R) same-done (λ k e s t h. record { machines = h; steps = refl; stop = refl })
-        (λ n k s t h on.
-        after-alike k s t (run doneS turnS n (suc k)) (run doneT turnT n (suc k)) (turnS k s) (turnT k t) h (step k s t h) on)
+        (λ n k s t e h on.
+        after-alike k s t (run doneS turnS n (suc k)) (run doneT turnT n (suc k)) (turnS k s) (turnT k t) h (step k s t e h) on)
+
+-- ---- a machine that maps to another
+
+-- a turn, mapped
+abbrev pub turnTo : {S T : Type 0} → (S → T) → Turn S → Turn T
+turnTo f (over e) = over e
+turnTo f (last e s) = last e (f s)
+turnTo f (next s) = next (f s)
+
+-- a result, mapped
+abbrev pub resultTo : {S T : Type 0} → (S → T) → Result S → Result T
+resultTo f r = record { machine = f (r .machine); steps = r .steps; stop = r .stop }
+
+module _ {S T : Type 0} (f : S → T) (P : S → Type 0) where
+  -- a machine in P, and the one that it maps to
+  abbrev Maps : S → T → Type 0
+  Maps s t = P s × (t ≡ f s)
+
+  turn-maps : (u : Turn S) (v : Turn T) → v ≡ turnTo f u → Keeps P P u → TurnsAlike Maps u v
+  turn-maps u v e h = rw e (go u h)
+    where
+      go : (u : Turn S) → Keeps P P u → TurnsAlike Maps u (turnTo f u)
+      go (over e) h = refl
+      go (last e s) h = (refl, (h, refl))
+      go (next s) h = (h, refl)
+
+  module _ (doneS : S → Bool) (doneT : T → Bool) (turnS : ℕ → S → Turn S) (turnT : ℕ → T → Turn T)
+      (same-done : (s : S) → P s → doneS s ≡ doneT (f s))
+      (step : (k : ℕ) (s : S) → doneS s ≡ false → P s → (turnT k (f s) ≡ turnTo f (turnS k s)) × Keeps P P (turnS k s)) where
+    step-maps : (k : ℕ) (s : S) (t : T) → doneT t ≡ false → Maps s t → TurnsAlike Maps (turnS k s) (turnT k t)
+    step-maps k s t more (h, is) =
+        let (maps, kept) = step k s (same-done s h ∙ ap doneT (sym is) ∙ more) h in
+        turn-maps (turnS k s) (turnT k t) (ap (turnT k) is ∙ maps) kept
+
+    pub run-maps : (n k : ℕ) (s : S) → P s → run doneT turnT n k (f s) ≡ resultTo f (run doneS turnS n k s)
+    run-maps n k s h =
+        let a = run-alike Maps doneS doneT turnS turnT (λ s t (g, is). same-done s g ∙ ap doneT (sym is)) step-maps n k s (f s) (h, refl) in
+        λ i. record { machine = a .machines .1 i; steps = sym (a .steps) i; stop = sym (a .stop) i }
+
+-- ---- a run that goes on where another is done
+
+-- a turn that does not stop a run in this way
+abbrev pub Avoids : {S : Type 0} → (Stop → Bool) → Turn S → Type 0
+Avoids way (over e) = way e ≡ false
+Avoids way (last e s) = way (ended e) ≡ false
+Avoids way (next s) = Unit {0}
+
+-- the result r of a run whose budget and steps at its start are `total` together; where it is done, what `on` makes of the budget left and the steps made
+abbrev pub thenOn : {S : Type 0} → (ℕ → ℕ → S → Result S) → ℕ → Result S → Result S
+thenOn on total r = cond (isDone (r .stop)) (on (total - r .steps) (r .steps) (r .machine)) r
+
+module _ {S : Type 0} (done done′ : S → Bool) (turn turn′ : ℕ → S → Turn S) (P : S → Type 0) (on : ℕ → ℕ → S → Result S)
+    (same : (k : ℕ) (s : S) → done s ≡ false → P s
+    → (done′ s ≡ false) × (turn′ k s ≡ turn k s) × Avoids isDone (turn k s) × Keeps P P (turn k s))
+    (goes : (n k : ℕ) (s : S) → done s ≡ true → P s → run done′ turn′ n k s ≡ on n k s) where
+  after-then : (n k : ℕ) (s : S) (f g : S → Result S) (u : Turn S) → Avoids isDone u → Keeps P P u
+      → ((s′ : S) → P s′ → f s′ ≡ thenOn on (n + suc k) (g s′)) → after s k f u ≡ thenOn on (suc n + k) (after s k g u)
+  after-then n k s f g (over e) h kept step = rw h
+  after-then n k s f g (last e s′) h kept step = rw h
+  after-then n k s f g (next s′) h kept step = step s′ kept ∙ ap (λ (t : ℕ). thenOn on t (g s′)) (add-suc n k ∙ sym (suc-add n k))
+
+  done-then : (n k : ℕ) (s : S) → done s ≡ true → P s → run done′ turn′ n k s ≡ thenOn on (n + k) (run done turn n k s)
+  done-then n k s e h =
+      goes n k s e h ∙ ap (λ (b : ℕ). on b k s) (sym (add-sub-cancel n k))
+      ∙ ap (thenOn on (n + k)) (sym (run-done done turn n k s e))
+
+  spent-then : (k : ℕ) (s : S) → P s → (t : Bool) → done s ≡ t → run done′ turn′ 0 k s ≡ thenOn on (0 + k) (run done turn 0 k s)
+  unfolding run
+  spent-then k s h true e = done-then 0 k s e h
+  spent-then k s h false e = rw (e, same k s e h .0)
+
+  step-then : (n k : ℕ) (s : S) → P s → (t : Bool) → done s ≡ t
+      → ((s′ : S) → P s′ → run done′ turn′ n (suc k) s′ ≡ thenOn on (n + suc k) (run done turn n (suc k) s′))
+      → run done′ turn′ (suc n) k s ≡ thenOn on (suc n + k) (run done turn (suc n) k s)
+  unfolding run
+  step-then n k s h true e later = done-then (suc n) k s e h
+  step-then n k s h false e later =
+      let (more, alike, undone, kept) = same k s e h in
+      rw (e, more, alike)
+      (after-then n k s (run done′ turn′ n (suc k)) (run done turn n (suc k)) (turn k s) undone kept later)
+
+  pub run-then : (n k : ℕ) (s : S) → P s → run done′ turn′ n k s ≡ thenOn on (n + k) (run done turn n k s)
+  run-then zero k s h = spent-then k s h (done s) refl
+  run-then (suc n) k s h = step-then n k s h (done s) refl (λ s′. run-then n (suc k) s′)

@@ -22,7 +22,7 @@ use Rattle.engine.specs.Run.Turn.{over, last, next}
 use Rattle.engine.specs.Engine.{Engine, engineTurn, engineDone, engineFrom, engineRun}
 use Rattle.engine.specs.Ledger.{Entry, Ledger, Beyond, stopsAt, exactTrap, keepExact, exactTurn, ledgerDone, exactFrom, exactRun}
 use Rattle.engine.specs.declared.ending.Ending.the-variants.{Done, Spent, Trap, Refused}
-use Rattle.engine.proofs.Runs.{run-done}
+use Rattle.engine.proofs.Runs.{Avoids, run-done}
 
 -- ---- any machine
 
@@ -38,14 +38,8 @@ isSpent left = false
 abbrev pub goingOn : {S : Type 0} → (ℕ → S → Result S) → Result S → Result S
 goingOn on r = cond (isSpent (r .stop)) (on (r .steps) (r .machine)) r
 
--- a turn does not end a run as spent
-abbrev pub Ends : {S : Type 0} → Turn S → Type 0
-Ends (over e) = isSpent e ≡ false
-Ends (last e s) = isSpent (ended e) ≡ false
-Ends (next s) = Unit {0}
-
-module _ {S : Type 0} (done : S → Bool) (turn : ℕ → S → Turn S) (ends : (k : ℕ) (s : S) → Ends (turn k s)) where
-  after-split : (k : ℕ) (s : S) (f g : S → Result S) (on : ℕ → S → Result S) (u : Turn S) → Ends u → ((s′ : S) → f s′ ≡ goingOn on (g s′))
+module _ {S : Type 0} (done : S → Bool) (turn : ℕ → S → Turn S) (ends : (k : ℕ) (s : S) → Avoids isSpent (turn k s)) where
+  after-split : (k : ℕ) (s : S) (f g : S → Result S) (on : ℕ → S → Result S) (u : Turn S) → Avoids isSpent u → ((s′ : S) → f s′ ≡ goingOn on (g s′))
       → after s k f u ≡ goingOn on (after s k g u)
   after-split k s f g on (over e) h step = rw h
   after-split k s f g on (last e s′) h step = rw h
@@ -88,32 +82,40 @@ module _ {S : Type 0} (done : S → Bool) (turn : S → Turn S) (j : ℕ) where
 
 -- ---- the engine and the ledger
 
--- a complete step ends a run, if it does, with a trap
-complete-ends : {S : Type 0} (trap : ℕ) (s : S) → Ends (complete trap s)
-complete-ends trap s = by-test Ends (eqb trap 0) {x = next s} {y = last (Trap trap) s} (λ e. tt) (λ e. refl)
+-- a way to stop that is no trap
+module _ (way : Stop → Bool) (traps : (n : ℕ) → way (ended (Trap n)) ≡ false) where
+  -- a complete step ends a run, if it does, with a trap
+  complete-ends : {S : Type 0} (trap : ℕ) (s : S) → Avoids way (complete trap s)
+  complete-ends trap s = by-test (Avoids way) (eqb trap 0) {x = next s} {y = last (Trap trap) s} (λ e. tt) (λ e. traps trap)
+
+  -- and so does a step of the engine
+  pub engine-ends : (p : List Operation) (settings : Settings) (x : Engine) → Avoids way (engineTurn p settings x)
+  unfolding engineTurn
+  engine-ends p settings x =
+      let r = stepped p settings (x .state) (x .memory) in
+      by-test (Avoids way) (r .counted) (λ e. complete-ends (r .trap) _) (λ e. traps (r .trap))
 
 module _ (p : List Operation) (settings : Settings) where
-  engine-ends : (x : Engine) → Ends (engineTurn p settings x)
-  unfolding engineTurn
-  engine-ends x =
-      let r = stepped p settings (x .state) (x .memory) in
-      by-test Ends (r .counted) (λ e. complete-ends (r .trap) _) (λ e. refl)
-
   kept-ends : (beyond : Beyond) (m : Mode) (o : Operation) (e : Exact) (c : Core) (memory : List ℕ) (l : List Entry)
-      → Ends (keepExact beyond p (settings .traps) m o e c memory l)
+      → Avoids isSpent (keepExact beyond p (settings .traps) m o e c memory l)
   unfolding keepExact
   kept-ends beyond m o Keep c memory l = tt
   kept-ends beyond m o (ExactResult t r) c memory l =
-      by-test Ends (stopsAt beyond m t r) (λ e. refl) (λ e. complete-ends (exactTrap (settings .traps) t r) _)
+      by-test (Avoids isSpent) (stopsAt beyond m t r) (λ e. refl) (λ e. complete-ends isSpent (λ n. refl) (exactTrap (settings .traps) t r) _)
 
-  ledger-ends : (beyond : Beyond) (k : ℕ) (y : Ledger) → Ends (exactTurn beyond p settings k y)
+  ledger-ends : (beyond : Beyond) (k : ℕ) (y : Ledger) → Avoids isSpent (exactTurn beyond p settings k y)
   unfolding exactTurn
   ledger-ends beyond k y =
       let c = y .core in
       let m = modeOf (c .mode) in
       let o = operationAt p (c .pc) in
       let work = workOf settings m o c (y .memory) in
-      by-test Ends (eqb (work .effect .trap) 0) (λ e. kept-ends beyond m o (work .effect .exact) _ _ _) (λ e. refl)
+      by-test (Avoids isSpent) (eqb (work .effect .trap) 0) (λ e. kept-ends beyond m o (work .effect .exact) _ _ _) (λ e. refl)
+
+  -- the engine's run with k steps made before it
+  pub engine-later : (m k : ℕ) (x : Engine) → engineFrom p settings m k x ≡ later k (engineFrom p settings m 0 x)
+  engine-later m k x =
+      ap (λ (j : ℕ). engineFrom p settings m j x) (sym (add-zero k)) ∙ run-later (engineDone p) (engineTurn p settings) k m 0 x
 
   -- the engine's run in two parts
   pub engine-split : (n m : ℕ) (s : State) (memory : List ℕ)
@@ -121,13 +123,9 @@ module _ (p : List Operation) (settings : Settings) where
       ≡ goingOn (λ k x. later k (engineRun p settings m (x .state) (x .memory))) (engineRun p settings n s memory)
   unfolding engineRun
   engine-split n m s memory =
-      run-split (engineDone p) (λ k. engineTurn p settings) (λ k. engine-ends) n m 0 (record { state = s; memory = memory })
+      run-split (engineDone p) (λ k. engineTurn p settings) (λ k. engine-ends isSpent (λ n. refl) p settings) n m 0 (record { state = s; memory = memory })
       ∙ ap (λ (on : ℕ → Engine → Result Engine). goingOn on (engineFrom p settings n 0 (record { state = s; memory = memory })))
-      (λ i k x. added k x i)
-    where
-      added : (k : ℕ) (x : Engine) → engineFrom p settings m k x ≡ later k (engineFrom p settings m 0 x)
-      added k x =
-          ap (λ (j : ℕ). engineFrom p settings m j x) (sym (add-zero k)) ∙ run-later (engineDone p) (engineTurn p settings) k m 0 x
+      (λ i k x. engine-later m k x i)
 
   -- the ledger's, whether it stops or goes on, its list of stores and its count of steps carried on
   pub ledger-split : (beyond : Beyond) (n m : ℕ) (c : Core) (memory : List ℕ)

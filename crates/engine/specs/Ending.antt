@@ -1,10 +1,13 @@
 -- The names, numbers and codes of endings.
-use Prim.Native.Nat.{ℕ, _+_, _%_}
-use mathlib.Core.List.{List, [], _∷_}
+use Prim.Native.Nat.{ℕ, _+_, _-_, _/_, _%_}
+use mathlib.Core.Bool.{cond}
+use mathlib.Core.List.{List, [], _∷_, _++_}
+use lib.Dec.{ltb}
+use lib.ListN.{length, replicate}
 use Rattle.engine.specs.declared.ending.Ending.{Ending}
 use Rattle.engine.specs.declared.ending.Ending.the-variants.{Done, Spent, Trap, Refused}
 
--- trap1..trap7, refused1..refused7; done and spent have no number
+-- trap1..trap7, refused1..refused15; done and spent have no number
 unfoldable pub numberOf : Ending → ℕ
 numberOf Done = 0
 numberOf Spent = 0
@@ -15,12 +18,20 @@ numberOf (Refused n) = n
 abbrev pub digitOf : ℕ → ℕ
 digitOf n = 48 + n % 10
 
--- done, spent, trap and its number, refused and its number, in ASCII, filled up with zeros
+-- a number in decimal, one digit or two: right for 0 to 99; of a larger number the last two digits
+unfoldable pub decimalOf : ℕ → List ℕ
+decimalOf n = cond (ltb n 10) (digitOf n ∷ []) (digitOf (n / 10) ∷ digitOf n ∷ [])
+
+-- filled up with zeros to so many bytes
+abbrev pub filledTo : ℕ → List ℕ → List ℕ
+filledTo size text = text ++ replicate (size - length text) 0
+
+-- done, spent, trap and its number, refused and its number, in ASCII, filled up with zeros to nine bytes
 unfoldable pub nameOf : Ending → List ℕ
-nameOf Done = 100 ∷ 111 ∷ 110 ∷ 101 ∷ 0 ∷ 0 ∷ 0 ∷ 0 ∷ []
-nameOf Spent = 115 ∷ 112 ∷ 101 ∷ 110 ∷ 116 ∷ 0 ∷ 0 ∷ 0 ∷ []
-nameOf (Trap n) = 116 ∷ 114 ∷ 97 ∷ 112 ∷ digitOf n ∷ 0 ∷ 0 ∷ 0 ∷ []
-nameOf (Refused n) = 114 ∷ 101 ∷ 102 ∷ 117 ∷ 115 ∷ 101 ∷ 100 ∷ digitOf n ∷ []
+nameOf Done = filledTo 9 (100 ∷ 111 ∷ 110 ∷ 101 ∷ [])
+nameOf Spent = filledTo 9 (115 ∷ 112 ∷ 101 ∷ 110 ∷ 116 ∷ [])
+nameOf (Trap n) = filledTo 9 ((116 ∷ 114 ∷ 97 ∷ 112 ∷ []) ++ decimalOf n)
+nameOf (Refused n) = filledTo 9 ((114 ∷ 101 ∷ 102 ∷ 117 ∷ 115 ∷ 101 ∷ 100 ∷ []) ++ decimalOf n)
 
 -- a code of two hex digits: 00 done, 10 spent, 2n trap n, 3n refusal n
 unfoldable pub codeOf : Ending → ℕ

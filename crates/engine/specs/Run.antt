@@ -3,7 +3,7 @@ use Prim.Native.Nat.{ℕ, zero, suc}
 use mathlib.Core.Bool.{Bool, true, false, cond}
 use lib.Dec.{eqb}
 use Rattle.engine.specs.declared.ending.Ending.{Ending}
-use Rattle.engine.specs.declared.ending.Ending.the-variants.{Done, Spent, Trap}
+use Rattle.engine.specs.declared.ending.Ending.the-variants.{Done, Spent, Trap, Refused}
 
 -- how a run stops: with an ending, or, the ledger's alone, marked "left"
 pub data Stop : Type 0 where
@@ -14,6 +14,14 @@ pub data Stop : Type 0 where
 abbrev pub isLeft : Stop → Bool
 isLeft (ended e) = false
 isLeft left = true
+
+-- ended as done
+abbrev pub isDone : Stop → Bool
+isDone (ended Done) = true
+isDone (ended Spent) = false
+isDone (ended (Trap n)) = false
+isDone (ended (Refused n)) = false
+isDone left = false
 
 -- what executing the operation at pc comes to
 pub data Turn (S : Type 0) : Type 0 where

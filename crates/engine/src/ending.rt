@@ -1,8 +1,9 @@
 // How a run ends.
 ghost use mathlib.Core.Path.{_≡_};
-ghost use Rattle.engine.specs.Ending.{digitOf, nameOf, numberOf, codeOf};
+ghost use Rattle.engine.specs.Ending.{digitOf, decimalOf, filledTo, nameOf, numberOf, codeOf};
 
-// Done: pc is the count of operations. Spent: the budget's steps are made. Trap: its number, 1 to 7. Refused: its number, 1 to 7.
+// Done: pc is the count of operations. Spent: the budget's steps are made. Trap: its number, 1 to 7. Refused: its number, 1 to 7 of `run`, up to 15 of
+// other calls.
 pub enum Ending {
     Done,
     Spent,
@@ -10,11 +11,22 @@ pub enum Ending {
     Refused(u8),
 }
 
-// The digit of a number below 10.
+// A number's last digit.
 fn digit(n: u8) -> u8
     ensures { λ r. ⌜ r ≡ digitOf n ⌝ }
 {
     48 + n % 10
+}
+
+// A number in decimal; a zero follows a single digit.
+fn decimal(n: u8) -> [u8; 2]
+    ensures { λ r. ⌜ r ≡ filledTo 2 (decimalOf n) ⌝ }
+{
+    if n < 10 {
+        [digit(n), 0]
+    } else {
+        [digit(n / 10), digit(n)]
+    }
 }
 
 impl Ending {
@@ -42,15 +54,21 @@ impl Ending {
         }
     }
 
-    // The name, with its number, in ASCII; zeros fill the eight bytes.
-    pub fn name(self) -> [u8; 8]
+    // The name, with its number, in ASCII; zeros fill the nine bytes.
+    pub fn name(self) -> [u8; 9]
         ensures { λ r. ⌜ r ≡ nameOf self ⌝ }
     {
         match self {
-            Ending::Done => *b"done\0\0\0\0",
-            Ending::Spent => *b"spent\0\0\0",
-            Ending::Trap(n) => [116, 114, 97, 112, digit(n), 0, 0, 0],
-            Ending::Refused(n) => [114, 101, 102, 117, 115, 101, 100, digit(n)],
+            Ending::Done => *b"done\0\0\0\0\0",
+            Ending::Spent => *b"spent\0\0\0\0",
+            Ending::Trap(n) => {
+                let d = decimal(n);
+                [116, 114, 97, 112, d[0], d[1], 0, 0, 0]
+            }
+            Ending::Refused(n) => {
+                let d = decimal(n);
+                [114, 101, 102, 117, 115, 101, 100, d[0], d[1]]
+            }
         }
     }
 }

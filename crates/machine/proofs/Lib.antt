@@ -4,9 +4,11 @@ pub mod CallExamples
 pub mod StepExamples
 pub mod Works
 pub mod Order
+pub mod Seen
 pub mod Words
 pub mod Places
 pub mod Nested
 pub mod Around
 pub mod Stands
+pub mod Ends
 pub mod Calls

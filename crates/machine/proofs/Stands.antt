@@ -308,8 +308,9 @@ module _ (p : List Operation) (placed : isPlaced p ≡ true) where
 
 -- ---- the restart keeps it
 
-pub restart-stands : (p : List Operation) (s : State) → Stands p (s .core) → Stands p (restartedState s .core)
+-- for every program
+pub restart-stands : (p q : List Operation) (s : State) → Stands p (s .core) → Stands q (restartedState s .core)
 unfolding restartedState
-restart-stands p s h =
-    accepted-stands p (restartedState s) (record { registers = h .registers; words = h .words; starts = refl; passes = refl })
-    (restart-accepted p p s (stands-accepted p s h))
+restart-stands p q s h =
+    accepted-stands q (restartedState s) (record { registers = h .registers; words = h .words; starts = refl; passes = refl })
+    (restart-accepted p q s (stands-accepted p s h))

@@ -6,6 +6,7 @@ use mathlib.Core.List.{List}
 use native.Mathlib.Omega.{arith}
 use borrow.Author.Tests.{eqb-true, leb-true, eq-eqb, ne-eqb}
 use lib.Dec.{eqb, leb}
+use lib.ListN.{length}
 use Rattle.integers.proofs.Whole.{both, by-test}
 use Rattle.accumulator.specs.declared.mode.Target.{Target}
 use Rattle.accumulator.specs.declared.mode.Target.the-variants.{A, B}
@@ -228,3 +229,26 @@ operation-encode ClearSaturation e = refl
 pub decode-encode : (o : Operation) → isListed o ≡ true → decodeOf (encodeOf o) ≡ Listed o
 unfolding decodeOf
 decode-encode o e = rw (operation-encode o e, e, same-refl (encodeOf o))
+
+-- an operation has eight bytes
+pub encode-length : (o : Operation) → length (encodeOf o) ≡ 8
+unfolding encodeOf
+encode-length (MacOperation k) = refl
+encode-length (AddAccumulators t) = refl
+encode-length (Subtract t) = refl
+encode-length (Negate t) = refl
+encode-length (Shift t r) = refl
+encode-length (Lac t b2 o) = refl
+encode-length (Add t b2 o) = refl
+encode-length (Sac t b2 o) = refl
+encode-length (SacR t b2 o) = refl
+encode-length (Literal r v) = refl
+encode-length (Load r p post) = refl
+encode-length (Store r p post) = refl
+encode-length (Repeat n) = refl
+encode-length (RepeatRegister r) = refl
+encode-length (Do n last) = refl
+encode-length (DoRegister r last) = refl
+encode-length EndEarly = refl
+encode-length (SetMode word) = refl
+encode-length ClearSaturation = refl

@@ -4,7 +4,7 @@ use mathlib.Core.Bool.{Bool, true, false, not}
 use mathlib.Core.List.{List}
 use mathlib.Core.Logic.{⊎-elim}
 use mathlib.Core.Path.{_≡_, refl, subst}
-use native.Mathlib.Nat.{eq-or-lt-of-le, le-of-suc-le-suc, not-suc-le-zero}
+use native.Mathlib.Nat.{eq-or-lt-of-le, le-of-suc-le-suc, le-step, le-refl, not-suc-le-zero}
 use native.Mathlib.Omega.{arith}
 use borrow.Author.Tests.{ltb-true, leb-true, not-true}
 use lib.Dec.{ltb, leb}
@@ -12,16 +12,21 @@ use lib.ListN.{length, getD, List·getD-map}
 use Rattle.integers.proofs.Whole.{both}
 use Rattle.operations.specs.declared.operation.Operation.{Operation}
 use Rattle.operations.specs.declared.operation.Operation.the-variants.{EndEarly}
-use Rattle.program.specs.Placement.{roleOf, roleAt, isRepeat, lastOf, endsBelow, allOf, isInner, isNested, isPlacedAs, isPlacedAt, isPlaced}
+use Rattle.program.specs.Placement.{roleOf, roleAt, isPlain, isRepeat, lastOf, endsBelow, allOf, isInner, isNested, isPlacedAs, isPlacedAt, isPlaced}
 use Rattle.program.specs.declared.placement.Role.{Role}
 use Rattle.program.specs.declared.placement.Role.the-variants.{Plain, Repeats, Loops}
 
--- a test that holds of 0, 1, .., n - 1 holds of each
+-- ---- tests that hold of 0, 1, .., n - 1
+
 all-each : (f : ℕ → Bool) (n i : ℕ) → i < n → allOf f n ≡ true → f i ≡ true
 all-each f zero i l h = absurd (not-suc-le-zero l)
 all-each f (suc n) i l h =
     let (before, here) = both (allOf f n) (f n) h in
     ⊎-elim (λ e. rw e here) (λ k. all-each f n i k before) (eq-or-lt-of-le (le-of-suc-le-suc l))
+
+pub all-of : (f : ℕ → Bool) (n : ℕ) → ((i : ℕ) → i < n → f i ≡ true) → allOf f n ≡ true
+all-of f zero h = refl
+all-of f (suc n) h = rw (all-of f n (λ i l. h i (le-step l)), h n (le-refl (suc n)))
 
 -- ---- roles
 
@@ -70,3 +75,18 @@ module _ (p : List Operation) (placed : isPlaced p ≡ true) where
             ends-before e (roleAt p k) (omega arith)
             (subst (λ (j : ℕ). endsBelow e (roleAt p j) ≡ true) at (all-each (isInner p d e) (e - d) (k - (d + 1)) (omega arith) nested));
       }
+
+  -- the last operation of a DO is one of the program; so is 0
+  pub last-below : (i : ℕ) → i < length p → lastOf (roleAt p i) < length p
+  last-below i l = go (roleAt p i) refl
+    where
+      go : (r : Role) → roleAt p i ≡ r → lastOf r < length p
+      go Plain is = omega arith
+      go Repeats is = omega arith
+      go (Loops e) is = loop-placed i e l is .ends
+
+  -- a REPEAT stands before an operation that is neither DO nor REPEAT
+  pub repeat-placed : (i : ℕ) → i < length p → roleAt p i ≡ Repeats → (i + 1 < length p) × (isPlain (roleAt p (i + 1)) ≡ true)
+  repeat-placed i l is =
+      let (inside, plain) = both (ltb (i + 1) (length p)) (isPlain (roleAt p (i + 1))) (placed-as i Repeats l is) in
+      (ltb-true (i + 1) (length p) inside, plain)

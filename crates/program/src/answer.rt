@@ -16,6 +16,8 @@ pub enum Refusal {
     Placement,
     // too little room for the output
     Room,
+    // two programs of more than 4,032 operations together
+    Together,
 }
 
 impl Refusal {
@@ -30,6 +32,7 @@ impl Refusal {
             Refusal::Field => 4,
             Refusal::Placement => 5,
             Refusal::Room => 8,
+            Refusal::Together => 9,
         }
     }
 }

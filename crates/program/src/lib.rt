@@ -2,8 +2,8 @@
 // Each contract says that the answer, and what stands in a lent slice afterwards, is what a definition of specs/ gives.
 mod accept;
 pub mod answer;
-mod block;
-mod bytes;
+pub mod block;
+pub mod bytes;
 pub mod file;
 mod layout;
 mod placement;

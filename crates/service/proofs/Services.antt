@@ -53,7 +53,7 @@ before-clear b y = ap (λ (s : State). engineOf s (b .fills (y .memory))) (go (b
 before-fits : (p : List Operation) (words : ℕ) (b : Bag) (x : Engine) → Sound words b → Fit p words x → Fit p words (engineBefore b x)
 before-fits p words b x sound h =
     record {
-      stands = by-test (λ (s : State). Stands p (s .core)) (b .restarts) (λ e. restart-stands p (x .state) (h .stands)) (λ e. h .stands);
+      stands = by-test (λ (s : State). Stands p (s .core)) (b .restarts) (λ e. restart-stands p p (x .state) (h .stands)) (λ e. h .stands);
       ram = sound .words (x .memory) (h .long) (h .ram);
       long = sound .long (x .memory) (h .long);
     }

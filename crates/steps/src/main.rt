@@ -1,11 +1,11 @@
 // Cases from standard input, in each of which one step is made, answered by a line on standard output.
+use engine::ending::Ending;
 use libc::STDIN_FILENO;
 use machine::single::SingleStep;
 use machine::single::single_step;
 use stream::header;
 use stream::line;
 use stream::memory::fill;
-use stream::number::print_number;
 use stream::number::print_text;
 ghost use Prim.Native.Nat.{_*_, _≤_};
 ghost use lib.ListN.{length};
@@ -13,8 +13,8 @@ ghost use lib.ListN.{length};
 // One case: its header, the program file, the words of memory. The simulator makes none that is longer than the buffers; it would have no answer,
 // and what follows it would be out of step.
 fn case(file: &mut [u8], bytes: &mut [u8], memory: &mut [u16]) {
-    let mut head = [0u8; 112];
-    io::read_full(STDIN_FILENO, &mut head);
+    let mut head = [0u8; 320];
+    io::read_full(STDIN_FILENO, &mut head[0..112]);
     let size = header::file_size(head);
     let words = header::memory_words(head);
     if file.len() < size {
@@ -39,20 +39,18 @@ fn case(file: &mut [u8], bytes: &mut [u8], memory: &mut [u16]) {
 // How the step ended: refused, done, trapped or made.
 fn print_ending(made: SingleStep) {
     if made.refusal != 0 {
-        print_text(b"refused");
-        print_number(made.refusal as u64);
+        line::print_ending(Ending::Refused(made.refusal));
     } else if made.trap != 0 {
-        print_text(b"trap");
-        print_number(made.trap as u64);
+        line::print_ending(Ending::Trap(made.trap));
     } else if made.counted {
         print_text(b"step");
     } else {
-        print_text(b"done");
+        line::print_ending(Ending::Done);
     }
 }
 
 // The step of a case, and its line.
-fn answer(head: [u8; 112], file: &[u8], bytes: &[u8], memory: &mut [u16])
+fn answer(head: [u8; 320], file: &[u8], bytes: &[u8], memory: &mut [u16])
     requires { ⌜ 2 * length (now memory) ≤ length (now bytes) ⌝ }
 {
     fill(memory, bytes);

@@ -1,4 +1,4 @@
--- A case's header of 112 bytes, by the table of the case stream. Numbers are low byte first.
+-- A case's header of 320 bytes, by the tables of the case stream: the short form's 112, filled up with zeros, or the long form's. Numbers are low byte first.
 use Prim.Native.Nat.{ℕ, _+_, _*_, _^_}
 use mathlib.Core.Bool.{Bool}
 use mathlib.Core.List.{List, [], _∷_}
@@ -46,9 +46,17 @@ fileSize head = longAt head 0
 abbrev pub memoryWords : List ℕ → ℕ
 memoryWords head = longAt head 4
 
--- at 8, 4 bytes: the budget, or R, the bytes of lent output
+-- at 8, 4 bytes: the budget; of a load and of a write R, the bytes of lent output
 abbrev pub budgetIn : List ℕ → ℕ
 budgetIn head = longAt head 8
+
+-- at 260, 4 bytes: G, the length of a second file or of a recording
+abbrev pub secondSize : List ℕ → ℕ
+secondSize head = longAt head 260
+
+-- at 268, 4 bytes: R, the bytes of lent output
+abbrev pub outputRoom : List ℕ → ℕ
+outputRoom head = longAt head 268
 
 -- ---- settings
 

@@ -1,4 +1,4 @@
-// A case's header of 112 bytes: sizes, settings and state. Numbers are low byte first.
+// A case's header of 320 bytes: sizes, settings and state. Numbers are low byte first. The short form has the first 112; zeros follow.
 use address::step::Buffer;
 use address::word::ByteAddress;
 use state::settings::Circular;
@@ -10,8 +10,8 @@ use state::state::State;
 ghost use mathlib.Core.Path.{_≡_};
 ghost use Prim.Native.Nat.{_+_, _*_, _<_};
 ghost use Rattle.integers.specs.Bits.{signedOf};
-ghost use Rattle.stream.specs.Header.{wordOf, wordAt, longOf, longAt, numberOf, numberAt, fileSize, memoryWords, budgetIn, circularAt, settingsIn};
-ghost use Rattle.stream.specs.Header.{registersIn, loopsIn, flagIn, stateIn};
+ghost use Rattle.stream.specs.Header.{wordOf, wordAt, longOf, longAt, numberOf, numberAt, fileSize, memoryWords, budgetIn, secondSize, outputRoom};
+ghost use Rattle.stream.specs.Header.{circularAt, settingsIn, registersIn, loopsIn, flagIn, stateIn};
 
 // 16 bits.
 pub fn word(low: u8, high: u8) -> u16
@@ -21,8 +21,8 @@ pub fn word(low: u8, high: u8) -> u16
 }
 
 // The 16 bits from `at` on.
-fn word_at(head: [u8; 112], at: usize) -> u16
-    requires { ⌜ at + 1 < 112 ⌝ }
+fn word_at(head: [u8; 320], at: usize) -> u16
+    requires { ⌜ at + 1 < 320 ⌝ }
     ensures { λ r. ⌜ r ≡ wordAt head at ⌝ }
 {
     word(head[at], head[at + 1])
@@ -36,8 +36,8 @@ pub fn long(low: u16, high: u16) -> u32
 }
 
 // The 32 bits from `at` on.
-fn long_at(head: [u8; 112], at: usize) -> u32
-    requires { ⌜ at + 3 < 112 ⌝ }
+fn long_at(head: [u8; 320], at: usize) -> u32
+    requires { ⌜ at + 3 < 320 ⌝ }
     ensures { λ r. ⌜ r ≡ longAt head at ⌝ }
 {
     long(word_at(head, at), word_at(head, at + 2))
@@ -63,15 +63,15 @@ fn number(low: u32, high: u32) -> i64
 }
 
 // The 64 bits from `at` on, read as signed.
-fn number_at(head: [u8; 112], at: usize) -> i64
-    requires { ⌜ at + 7 < 112 ⌝ }
+fn number_at(head: [u8; 320], at: usize) -> i64
+    requires { ⌜ at + 7 < 320 ⌝ }
     ensures { λ r. ⌜ r ≡ numberAt head at ⌝ }
 {
     number(long_at(head, at), long_at(head, at + 4))
 }
 
 // Bit i of the flags.
-fn flag(head: [u8; 112], i: u8) -> bool
+fn flag(head: [u8; 320], i: u8) -> bool
     requires { ⌜ i < 8 ⌝ }
     ensures { λ r. ⌜ r ≡ flagIn head i ⌝ }
 {
@@ -79,29 +79,43 @@ fn flag(head: [u8; 112], i: u8) -> bool
 }
 
 // The bytes of the program file.
-pub fn file_size(head: [u8; 112]) -> usize
+pub fn file_size(head: [u8; 320]) -> usize
     ensures { λ r. ⌜ r ≡ fileSize head ⌝ }
 {
     long_at(head, 0) as usize
 }
 
 // The words of memory.
-pub fn memory_words(head: [u8; 112]) -> usize
+pub fn memory_words(head: [u8; 320]) -> usize
     ensures { λ r. ⌜ r ≡ memoryWords head ⌝ }
 {
     long_at(head, 4) as usize
 }
 
-// The budget of a run, or the bytes of lent output of a load or a write.
-pub fn budget(head: [u8; 112]) -> u32
+// The budget; of a load and of a write the bytes of lent output.
+pub fn budget(head: [u8; 320]) -> u32
     ensures { λ r. ⌜ r ≡ budgetIn head ⌝ }
 {
     long_at(head, 8)
 }
 
+// The bytes of the second file.
+pub fn second_size(head: [u8; 320]) -> usize
+    ensures { λ r. ⌜ r ≡ secondSize head ⌝ }
+{
+    long_at(head, 260) as usize
+}
+
+// The bytes of lent output of a case in the long form.
+pub fn output_room(head: [u8; 320]) -> usize
+    ensures { λ r. ⌜ r ≡ outputRoom head ⌝ }
+{
+    long_at(head, 268) as usize
+}
+
 // A circular register, its S and E.
-fn circular_at(head: [u8; 112], at: usize) -> Circular
-    requires { ⌜ at + 5 < 112 ⌝ }
+fn circular_at(head: [u8; 320], at: usize) -> Circular
+    requires { ⌜ at + 5 < 320 ⌝ }
     ensures { λ r. ⌜ r ≡ circularAt head at ⌝ }
 {
     let start = ByteAddress(word_at(head, at + 2));
@@ -114,7 +128,7 @@ fn circular_at(head: [u8; 112], at: usize) -> Circular
 }
 
 // The settings.
-pub fn settings(head: [u8; 112]) -> Settings
+pub fn settings(head: [u8; 320]) -> Settings
     ensures { λ r. ⌜ r ≡ settingsIn head ⌝ }
 {
     let x = circular_at(head, 16);
@@ -133,7 +147,7 @@ pub fn settings(head: [u8; 112]) -> Settings
 }
 
 // W0..W13.
-fn registers(head: [u8; 112]) -> [u16; 14]
+fn registers(head: [u8; 320]) -> [u16; 14]
     ensures { λ r. ⌜ r ≡ registersIn head ⌝ }
 {
     [
@@ -155,7 +169,7 @@ fn registers(head: [u8; 112]) -> [u16; 14]
 }
 
 // DO's number of slot i.
-fn start(head: [u8; 112], i: usize) -> usize
+fn start(head: [u8; 320], i: usize) -> usize
     requires { ⌜ i < 4 ⌝ }
     ensures { λ r. ⌜ r ≡ wordAt head (80 + 2 * i) ⌝ }
 {
@@ -163,7 +177,7 @@ fn start(head: [u8; 112], i: usize) -> usize
 }
 
 // The number of active loops and the four slots.
-fn loops(head: [u8; 112]) -> Loops
+fn loops(head: [u8; 320]) -> Loops
     ensures { λ r. ⌜ r ≡ loopsIn head ⌝ }
 {
     let starts = [
@@ -186,7 +200,7 @@ fn loops(head: [u8; 112]) -> Loops
 }
 
 // The state.
-pub fn state(head: [u8; 112]) -> State
+pub fn state(head: [u8; 320]) -> State
     ensures { λ r. ⌜ r ≡ stateIn head ⌝ }
 {
     let core = Core {

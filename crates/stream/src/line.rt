@@ -4,6 +4,7 @@ use crate::number::print_signed;
 use crate::number::print_text;
 use crate::number::print_word;
 use engine::ending::Ending;
+use engine::outcome::Outcome;
 use program::answer::Answer;
 use state::state::Core;
 use state::state::Loops;
@@ -29,11 +30,11 @@ pub fn print_word_field(x: u16) {
 }
 
 // The length of a name that zeros fill up.
-fn length(name: [u8; 8]) -> usize
-    ensures { λ r. ⌜ r ≤ 8 ⌝ }
+fn length(name: [u8; 9]) -> usize
+    ensures { λ r. ⌜ r ≤ 9 ⌝ }
 {
     let mut n = 0;
-    while n < 8 {
+    while n < 9 {
         if name[n] == 0 {
             return n;
         }
@@ -155,20 +156,77 @@ pub fn print_state(state: State, memory: &[u16]) {
     print_field(check(memory) as u64);
 }
 
-// The rest of a line after its ending: steps, the state, the check number of memory.
+// The rest of a step's line after its ending: steps, the state, the check number of memory.
 pub fn print_rest(steps: u64, state: State, memory: &[u16]) {
     print_field(steps);
     print_state(state, memory);
     print_text(b"\n");
 }
 
-// The line of a load or a write: the verb or the refusal, the bytes written, the check number of the lent slice.
+// All 70 registers, set 0 first; sets 1 to 4 are zeros.
+fn all_registers(w: [u16; 14]) -> [u16; 70] {
+    let mut all = [0u16; 70];
+    let mut i = 0;
+    while i < 14 {
+        all[i] = w[i];
+        i += 1;
+    }
+    all
+}
+
+// The number of the set in use, which is 0, and the check number of all registers.
+fn print_sets(core: Core) {
+    let w = core.w;
+    let all = all_registers(w);
+    print_field(0);
+    print_field(check(&all) as u64);
+}
+
+// A space and a count of steps.
+fn print_count(n: u32) {
+    print_field(n as u64);
+}
+
+// The nine task counts: those of the eight tasks, then that of operations in none.
+fn print_counts(counts: [u32; 9]) {
+    let mut i = 0;
+    while i < 9 {
+        print_count(counts[i]);
+        i += 1;
+    }
+}
+
+// The fields of a run: its ending, steps, the state, the check number of memory.
+fn print_outcome(outcome: Outcome, memory: &[u16]) {
+    let ending = outcome.ending;
+    let state = outcome.state;
+    print_ending(ending);
+    print_count(outcome.steps);
+    print_state(state, memory);
+}
+
+// The line of a run.
+pub fn print_run(outcome: Outcome, memory: &[u16]) {
+    print_outcome(outcome, memory);
+    print_text(b"\n");
+}
+
+// The line of a run in the long form: the fields of a run, then sets and task counts. Every step is of an operation in no task.
+pub fn print_long_run(outcome: Outcome, memory: &[u16]) {
+    let state = outcome.state;
+    let core = state.core;
+    print_outcome(outcome, memory);
+    print_sets(core);
+    print_counts([0, 0, 0, 0, 0, 0, 0, 0, outcome.steps]);
+    print_text(b"\n");
+}
+
+// The line of a load, a write or a join: the verb or the refusal, the bytes written, the check number of the lent slice.
 pub fn print_filled(verb: &[u8], answer: Answer, slice: &[u8]) {
     if answer.number() == 0 {
         print_text(verb);
     } else {
-        print_text(b"refused");
-        print_number(answer.number() as u64);
+        print_ending(Ending::Refused(answer.number()));
     }
     print_field(answer.bytes() as u64);
     print_bytes_check(slice);

@@ -1,4 +1,4 @@
-//! The case stream of CASES.md: parse, carry out, print.
+//! The short form of CASES.md: a case is parsed, carried out, printed.
 
 use std::fmt::{Display, Write as _};
 use std::io::{self, Read, Write};
@@ -13,8 +13,8 @@ use crate::status::status_word;
 use crate::words::word_at;
 
 pub const HEADER: usize = 112;
-const MOST_BYTES: u32 = 65_536;
-const MOST_WORDS: u32 = 32_768;
+pub const MOST_BYTES: u32 = 65_536;
+pub const MOST_WORDS: u32 = 32_768;
 
 #[derive(Clone, Copy, Debug, PartialEq, Eq)]
 pub enum What {
@@ -23,7 +23,7 @@ pub enum What {
     Write,
 }
 
-/// One case of a stream.
+/// One case of the short form.
 #[derive(Clone, Debug, PartialEq, Eq)]
 pub struct Case {
     pub what: What,
@@ -74,7 +74,7 @@ fn circular_at(header: &[u8], at: usize) -> Circular {
     }
 }
 
-fn settings_of(header: &[u8]) -> Settings {
+pub fn settings_of(header: &[u8]) -> Settings {
     Settings {
         x_words: word_at(header, 12),
         trap_word: word_at(header, 14),
@@ -87,7 +87,7 @@ fn settings_of(header: &[u8]) -> Settings {
     }
 }
 
-fn state_of(header: &[u8]) -> State {
+pub fn state_of(header: &[u8]) -> State {
     let flag = |number: u32| (header[110] >> number) & 1 == 1;
     State {
         w: std::array::from_fn(|i| word_at(header, 32 + 2 * i)),
@@ -138,26 +138,41 @@ fn what_of(header: &[u8]) -> What {
     }
 }
 
-/// The next case. Sizes are judged as soon as the header is there.
+/// The next header of 112 bytes, or why none came.
+pub fn next_header(input: &mut impl Read) -> Next<Vec<u8>> {
+    let header = take(input, HEADER)?;
+    Ok(match header.len() {
+        0 => Err(NoCase::End),
+        HEADER => Ok(header),
+        _ => Err(NoCase::Short),
+    })
+}
+
+/// The next of a stream of short cases.
 pub fn next_case(input: &mut impl Read) -> Next<Case> {
-    next_with(input, what_of)
+    match next_header(input)? {
+        Ok(header) => case_after(&header, input),
+        Err(why) => Ok(Err(why)),
+    }
+}
+
+/// The short case with this header.
+pub fn case_after(header: &[u8], input: &mut impl Read) -> Next<Case> {
+    case_as(what_of(header), header, input)
 }
 
 /// The next case as a run: its budget and its `what` are not looked at.
 pub fn next_run(input: &mut impl Read) -> Next<Case> {
-    next_with(input, |_| What::Run)
+    match next_header(input)? {
+        Ok(header) => case_as(What::Run, &header, input),
+        Err(why) => Ok(Err(why)),
+    }
 }
 
-fn next_with(input: &mut impl Read, what_of: fn(&[u8]) -> What) -> Next<Case> {
-    let header = take(input, HEADER)?;
-    if header.is_empty() {
-        return Ok(Err(NoCase::End));
-    }
-    if header.len() < HEADER {
-        return Ok(Err(NoCase::Short));
-    }
-    let (what, budget) = (what_of(&header), long_at(&header, 8));
-    let (bytes, words) = (long_at(&header, 0), long_at(&header, 4));
+/// Sizes are judged as soon as the header is there.
+fn case_as(what: What, header: &[u8], input: &mut impl Read) -> Next<Case> {
+    let budget = long_at(header, 8);
+    let (bytes, words) = (long_at(header, 0), long_at(header, 4));
     let lent_too_much = what != What::Run && budget > MOST_BYTES;
     if bytes > MOST_BYTES || words > MOST_WORDS || lent_too_much {
         return Ok(Err(NoCase::TooLarge));
@@ -169,8 +184,8 @@ fn next_with(input: &mut impl Read, what_of: fn(&[u8]) -> What) -> Next<Case> {
         file: body[..length].to_vec(),
         memory: words_of(&body[length..]),
         budget,
-        settings: settings_of(&header),
-        state: state_of(&header),
+        settings: settings_of(header),
+        state: state_of(header),
     }))
 }
 
@@ -191,7 +206,7 @@ pub fn line(case: &Case) -> String {
     }
 }
 
-fn run_line(outcome: &Outcome, memory: &[u16]) -> String {
+pub fn run_line(outcome: &Outcome, memory: &[u16]) -> String {
     state_line(&outcome.ending, outcome.steps, &outcome.state, memory)
 }
 
@@ -233,19 +248,18 @@ pub fn lent(length: u32) -> impl Iterator<Item = u8> {
     (0..length).map(|i| (i % 251) as u8)
 }
 
-/// A load or write with R lent bytes.
-fn lent_line(word: &str, room: u32, call: impl FnOnce(&mut [u8]) -> Result<usize, u8>) -> String {
+/// A call with R lent bytes.
+pub fn lent_line(
+    word: &str,
+    room: u32,
+    call: impl FnOnce(&mut [u8]) -> Result<usize, u8>,
+) -> String {
     let mut out: Vec<u8> = lent(room).collect();
     let answer = match call(&mut out) {
         Ok(bytes) => format!("{word} {bytes}"),
         Err(number) => format!("refused{number} 0"),
     };
     format!("{answer} {}", check(out.iter().map(|&x| u32::from(x))))
-}
-
-/// Print the lines of a whole stream of cases.
-pub fn print_lines(input: impl Read, output: impl Write) -> io::Result<()> {
-    print_each(input, output, next_case, line)
 }
 
 /// Print a line for each of a stream, up to its end or to what breaks it off.
@@ -274,9 +288,22 @@ pub fn print_each<T, R: Read>(
 
 /// The bytes of a case, as the stream holds them.
 pub fn bytes_of(case: &Case) -> Vec<u8> {
-    let (settings, state) = (&case.settings, &case.state);
-    let mut bytes = Vec::with_capacity(HEADER + case.file.len() + 2 * case.memory.len());
-    let mut put = |part: &[u8]| bytes.extend_from_slice(part);
+    let mut bytes = header_of(case, case.what as u8);
+    bytes.extend_from_slice(&case.file);
+    bytes.extend(memory_bytes(case));
+    bytes
+}
+
+/// The words of a case's memory as bytes.
+pub fn memory_bytes(case: &Case) -> impl Iterator<Item = u8> + '_ {
+    case.memory.iter().flat_map(|word| word.to_le_bytes())
+}
+
+/// The 112 bytes of header that both forms have.
+pub fn header_of(case: &Case, what: u8) -> Vec<u8> {
+    let settings = &case.settings;
+    let mut header = Vec::with_capacity(HEADER);
+    let mut put = |part: &[u8]| header.extend_from_slice(part);
     put(&(case.file.len() as u32).to_le_bytes());
     put(&(case.memory.len() as u32).to_le_bytes());
     put(&case.budget.to_le_bytes());
@@ -289,24 +316,24 @@ pub fn bytes_of(case: &Case) -> Vec<u8> {
     }
     put(&[settings.reversed.register, 0]);
     put(&settings.reversed.words.to_le_bytes());
-    state.w.iter().for_each(|word| put(&word.to_le_bytes()));
-    state
-        .accumulators
-        .iter()
-        .for_each(|n| put(&n.to_le_bytes()));
+    put_state(&mut header, &case.state);
+    header.push(what);
+    header
+}
+
+fn put_state(header: &mut Vec<u8>, state: &State) {
     let flow = &state.flow;
+    let mut put = |part: &[u8]| header.extend_from_slice(part);
+    state.w.iter().for_each(|word| put(&word.to_le_bytes()));
+    let numbers = state.accumulators.iter();
+    numbers.for_each(|n| put(&n.to_le_bytes()));
     put(&flow.pc.to_le_bytes());
     put(&[flow.active, 0]);
-    flow.loops
-        .iter()
-        .for_each(|l| put(&l.do_number.to_le_bytes()));
-    flow.loops.iter().for_each(|l| put(&l.passes.to_le_bytes()));
+    let loops = || flow.loops.iter();
+    loops().for_each(|l| put(&l.do_number.to_le_bytes()));
+    loops().for_each(|l| put(&l.passes.to_le_bytes()));
     put(&flow.repeat.to_le_bytes());
     put(&state.mode.0.to_le_bytes());
     let ([oa, ob], [sa, sb]) = (state.overflow, state.saturated);
-    let flags = u8::from(oa) | u8::from(ob) << 1 | u8::from(sa) << 2 | u8::from(sb) << 3;
-    put(&[flags, case.what as u8]);
-    put(&case.file);
-    case.memory.iter().for_each(|word| put(&word.to_le_bytes()));
-    bytes
+    put(&[u8::from(oa) | u8::from(ob) << 1 | u8::from(sa) << 2 | u8::from(sb) << 3]);
 }

@@ -25,7 +25,7 @@ pub enum Ending {
     Done,
     Spent,
     Trap(Trap),
-    /// The number from the table of "Program file", 1 to 7.
+    /// The number of the refusal; a run's is 1 to 7 of the table of "Program file".
     Refused(u8),
 }
 

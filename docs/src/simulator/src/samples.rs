@@ -4,13 +4,14 @@ use crate::cases::Case;
 use crate::settings::{BitReversed, Circular, Settings};
 use crate::tally::tally_case;
 
-pub const NAMES: [&str; 4] = ["fir", "fir_circular", "lms", "reorder"];
+pub const NAMES: [&str; 5] = ["fir", "fir_circular", "fir_lms", "lms", "reorder"];
 
 /// The case of a sample with its program file; nothing for another name.
 pub fn case_of(name: &str, file: &[u8]) -> Option<Case> {
     let plain = tally_case(file);
     let settings = match name {
         "fir" | "fir_circular" => fir_settings(plain.settings),
+        "fir_lms" => plain.settings,
         "lms" => lms_settings(plain.settings),
         "reorder" => reorder_settings(plain.settings),
         _ => return None,

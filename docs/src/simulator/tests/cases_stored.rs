@@ -1,13 +1,14 @@
-//! The stream of runs, loads and writes stored in crates/cases: what its parts
+//! The stream of runs, loads, writes and joins stored in crates/cases: what its parts
 //! hold, and the lines for it.
 
 mod common;
 use common::*;
 use std::collections::{BTreeMap, BTreeSet};
 
-use simulator::cases::{next_case, print_lines, Case, What};
+use simulator::cases::{check, Case, What};
 use simulator::encode::encode;
 use simulator::file::{check_file, BLOCK, MOST_BLOCKS};
+use simulator::form::{forms_of, print_lines, Form};
 use simulator::generate::coverage::{coverage, walk};
 use simulator::generate::forms::forms;
 use simulator::generate::runs::{parts, stream};
@@ -21,7 +22,7 @@ fn the_stored_stream_is_what_the_bin_writes() {
     let stored = stored_case_files("stdin");
     assert!(stored == stream());
     println!("{} bytes", stored.len());
-    assert!(stored.len() <= 6_000_000);
+    assert!(stored.len() <= 6_500_000);
 }
 
 #[test]
@@ -38,7 +39,7 @@ fn the_last_line_alone_is_short() {
     let (last, others) = lines.split_last().expect("lines");
     assert_eq!(*last, "short");
     assert!(!others.contains(&"short") && !others.contains(&"toolarge"));
-    assert_eq!(others.len(), cases().len());
+    assert_eq!(others.len(), whole_cases().len());
     assert!(others.len() >= 2_400);
 }
 
@@ -59,27 +60,55 @@ fn the_parts_have_these_lengths() {
         ("refused", 399),
         ("copies", 528),
         ("random", 2_000),
+        ("joins", 241),
+        ("joined", 550),
+        ("unknown", 12),
+        ("random_forms", 200),
     ];
     assert_eq!(lengths, said);
+}
+
+/// The check of the first bytes of a stored file.
+fn check_up_to(name: &str, bytes: usize) -> u32 {
+    let stored = stored_case_files(name);
+    check(stored[..bytes].iter().map(|&byte| u32::from(byte)))
+}
+
+/// The parts up to `random` are all short, and new parts come after them.
+#[test]
+fn the_short_parts_stand_first_as_they_are() {
+    assert_eq!(check_up_to("stdin", 4_558_587), 3_810_197_851);
+    assert_eq!(check_up_to("stdout", 601_189), 2_909_893_185);
+    let parts = parts().into_iter().take(13);
+    let all = parts.flat_map(|(_, forms)| forms);
+    assert!(all.into_iter().all(|form| matches!(form, Form::Short(_))));
 }
 
 // ---- what the stream holds
 
 /// The whole cases of the stored stream.
+fn whole_cases() -> Vec<Form> {
+    forms_of(&stored_case_files("stdin"))
+}
+
+/// The short ones of these.
+fn short(forms: Vec<Form>) -> Vec<Case> {
+    let case = |form| match form {
+        Form::Short(case) => Some(case),
+        Form::Long(_) => None,
+    };
+    forms.into_iter().filter_map(case).collect()
+}
+
+/// The short cases of the stored stream.
 fn cases() -> Vec<Case> {
-    let stored = stored_case_files("stdin");
-    let mut rest = stored.as_slice();
-    let mut cases = Vec::new();
-    while let Ok(Ok(case)) = next_case(&mut rest) {
-        cases.push(case);
-    }
-    cases
+    short(whole_cases())
 }
 
 fn part(wanted: &str) -> Vec<Case> {
     let mut parts = parts().into_iter();
     let found = parts.find(|(name, _)| *name == wanted);
-    found.expect("a part of that name").1
+    short(found.expect("a part of that name").1)
 }
 
 /// The runs among these cases that are not refused, with their outcomes.
@@ -94,8 +123,8 @@ fn accepted(cases: Vec<Case>) -> Vec<(Case, Outcome)> {
         .collect()
 }
 
-/// Every ending of a run, every answer to a load and a write, and how often each
-/// must come up.
+/// Every ending of a run, every answer to another call, and how often each must come
+/// up.
 fn answers() -> BTreeMap<String, usize> {
     let mut answers = BTreeMap::new();
     answers.insert("run done".to_string(), 1_000);
@@ -106,6 +135,13 @@ fn answers() -> BTreeMap<String, usize> {
     answers.extend([1, 4, 5, 8].map(|number| (format!("write refused{number}"), 5)));
     answers.insert("load loaded".to_string(), 50);
     answers.insert("write written".to_string(), 50);
+    answers.extend(["done", "spent"].map(|ending| (format!("long {ending}"), 20)));
+    answers.extend((1..=7).map(|number| (format!("long trap{number}"), 1)));
+    answers.extend((1..=7).map(|number| (format!("long refused{number}"), 1)));
+    answers.insert("join joined".to_string(), 100);
+    answers.extend([1, 2, 3, 4, 5, 8].map(|number| (format!("join refused{number}"), 10)));
+    answers.insert("join refused9".to_string(), 3);
+    answers.insert("call unknown".to_string(), 6);
     answers
 }
 

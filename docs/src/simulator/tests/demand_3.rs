@@ -8,7 +8,9 @@ use common::{end_alike, engine_word};
 
 use simulator::cases::Case;
 use simulator::congruence::ledger_of;
+use simulator::file::check_file;
 use simulator::generate::case::{accepted_run, candidate};
+use simulator::generate::pairs::{accepted_pair, joined_file};
 use simulator::generate::random::Random;
 use simulator::ledger::{LedgerEnding, LedgerOutcome, ListedStore};
 use simulator::operand::Place;
@@ -128,4 +130,31 @@ fn demand_3_on_random_accepted_runs() {
     assert!(seen.done >= 2_000 && seen.spent >= 2_000);
     assert!(seen.mid_loop >= 2_000);
     assert!(seen.mid_repeat >= 1_000);
+}
+
+/// The run of a joined file without kind 25.
+fn joined_run(random: &mut Random) -> Case {
+    loop {
+        let pair = accepted_pair(random);
+        let file = joined_file(&pair.first.file, &pair.second);
+        let (_, operations) = check_file(&file).expect("a joined file");
+        if operations.iter().all(|operation| operation.kind() != 25) {
+            return Case { file, ..pair.first };
+        }
+    }
+}
+
+/// Exact sums are promised to a joined program as to any accepted one.
+#[test]
+fn demand_3_on_joined_files() {
+    let mut random = Random::new(34);
+    let mut seen = Seen::default();
+    for _ in 0..4_000 {
+        let case = joined_run(&mut random);
+        check_run(&mut random, case, &mut seen);
+    }
+    println!("{seen:#?}");
+    assert!(seen.left >= 500 && seen.not_left >= 2_000);
+    assert!(seen.rounded_without_limiting >= 5_000 && seen.rerun >= 1_000);
+    assert!(seen.done >= 300 && seen.spent >= 500);
 }

@@ -12,8 +12,9 @@ use simulator::congruence::ledger_of;
 use simulator::file::check_file;
 use simulator::ledger::LedgerEnding;
 use simulator::samples::{case_of, NAMES};
+use simulator::succession::{faults, Pair};
 use simulator::tally::{tally_case, tally_line};
-use simulator::{Ending, Outcome};
+use simulator::{join, Ending, Outcome};
 
 fn stored(name: &str, ending: &str) -> Vec<u8> {
     stored_sample(&format!("{name}.{ending}"))
@@ -288,6 +289,115 @@ fn the_write_back_goes_round_with_its_setting() {
     let end = |case: Case| run_whole(&case).0.state.w[13];
     assert_eq!(end(plain_case("lms")), 0x180A);
     assert_eq!(end(own_case("lms")), 0x1800);
+}
+
+// ---- both filters in one file
+
+/// The steps of fir and of both.
+const FIR_STEPS: u32 = 817;
+const BOTH_STEPS: u32 = 2_264;
+
+#[test]
+fn the_joined_file_is_what_join_writes() {
+    let mut out = vec![0; 1_536];
+    let answer = join(&stored("fir", "bin"), &stored("lms", "bin"), &mut out);
+    assert_eq!(answer, Ok(1_536));
+    assert_eq!(out, stored("fir_lms", "bin"));
+    assert_eq!(own_case("fir_lms"), plain_case("fir_lms"));
+}
+
+/// What each operation is for, by its text.
+fn purposes(name: &str) -> Vec<String> {
+    let text = text(name);
+    let purpose = |line: &str| {
+        let (_, purpose) = line.split_once(" ; ")?;
+        let (_, why) = purpose.split_once(": ")?;
+        Some(why.to_string())
+    };
+    text.lines().filter_map(purpose).collect()
+}
+
+#[test]
+fn the_joined_text_is_both_texts() {
+    let both = [purposes("fir"), purposes("lms")].concat();
+    assert_eq!(both.len(), 148);
+    assert_eq!(purposes("fir_lms"), both);
+}
+
+fn fields(name: &str) -> Vec<String> {
+    let line = String::from_utf8(stored(name, "line")).unwrap();
+    line.split_whitespace().map(str::to_string).collect()
+}
+
+/// From the parts' lines: lms's but for the steps, pc, fir's W7, W13, which goes round
+/// in lms.case alone, and the memory's check, in which fir's last four taps count.
+#[test]
+fn the_joined_line_is_worked_out_from_the_parts() {
+    let (fir, mut due) = (fields("fir"), fields("lms"));
+    let number = |field: &str| field.parse::<u64>().unwrap();
+    due[1] = (number(&fir[1]) + number(&due[1])).to_string();
+    due[5] = (number(&fir[5]) + number(&due[5])).to_string();
+    let w = |register: usize| 13 + register;
+    assert_eq!((fir[w(7)].as_str(), due[w(7)].as_str()), ("0008", "0000"));
+    due[w(7)] = fir[w(7)].clone();
+    due[w(13)] = "180A".to_string();
+    // Word 1,029 of 2,048 has 1,018 after it.
+    let power = |n: u32| (0..n).fold(1, |p: u64, _| 31 * p % (1 << 32));
+    let taps = FIR_TAPS[5..].iter().zip([1_018, 1_017, 1_016, 1_015]);
+    let left: u64 = taps.map(|(&tap, after)| tap as u64 * power(after)).sum();
+    let last = due.len() - 1;
+    due[last] = ((number(&due[last]) + left) % (1 << 32)).to_string();
+    assert_eq!(fields("fir_lms"), due);
+    let said = [due[1].as_str(), due[5].as_str(), due[last].as_str()];
+    assert_eq!(said, ["2264", "148", "301742673"]);
+}
+
+/// After fir's steps all is as fir alone leaves it, pc at lms's first operation.
+#[test]
+fn the_first_filter_is_whole_before_the_second() {
+    let (fir, left) = run_whole(&plain_case("fir"));
+    let (joined, memory) = plain_case("fir_lms").run(FIR_STEPS);
+    assert_eq!((joined.ending, joined.steps), (Ending::Spent, FIR_STEPS));
+    assert_eq!((joined.state, memory), (fir.state, left));
+    let (before, _) = plain_case("fir_lms").run(FIR_STEPS - 1);
+    assert_eq!((before.state.flow.pc, before.state.flow.repeat), (67, 1));
+}
+
+/// lms has its own words at the end, and fir's last four taps stand past them.
+#[test]
+fn the_second_filter_is_that_of_whole_numbers_too() {
+    let case = plain_case("fir_lms");
+    check_lms(&case);
+    let (outcome, memory) = run_whole(&case);
+    assert_eq!((outcome.steps, outcome.state.flow.pc), (BOTH_STEPS, 148));
+    assert_eq!(words(&memory, 0x180A, 4), FIR_TAPS[5..]);
+    let (_, mut alone) = run_whole(&plain_case("lms"));
+    let first = (0x180A - 0x1000) / 2;
+    alone[first..first + 4].copy_from_slice(&memory[first..first + 4]);
+    assert_eq!(memory, alone);
+}
+
+/// The one word of fir's that lms reads: h[5] at 180A, by the last of the repeated
+/// EDACs, twelve steps before the end. The difference 0 - 7,187 is not used.
+#[test]
+fn a_word_of_the_first_is_read_and_not_used() {
+    let (joined, _) = plain_case("fir_lms").run(BOTH_STEPS - 12);
+    assert_eq!(joined.state.flow.pc, 142);
+    assert_eq!(joined.state.w[4] as i16, -7_187);
+    let (alone, _) = plain_case("lms").run(BOTH_STEPS - FIR_STEPS - 12);
+    assert_eq!((alone.state.flow.pc, alone.state.w[4]), (74, 0));
+}
+
+#[test]
+fn the_wish_on_both_filters() {
+    for budget in [0, 1, 816, 817, 818, 1_500, 2_263, 2_264, 2_265, 100_000] {
+        let mut pair = Pair {
+            first: plain_case("fir"),
+            second: stored("lms", "bin"),
+        };
+        pair.first.budget = budget;
+        assert_eq!(faults(&pair), [], "budget {budget}");
+    }
 }
 
 // ---- the reorder

@@ -1,23 +1,23 @@
 //! The generated stream: deterministic, covering, and printed by `cases` as
 //! the generator says.
 
-use simulator::cases::print_lines;
+use simulator::form::print_lines;
 use simulator::generate::coverage::coverage;
-use simulator::generate::generate;
+use simulator::generate::{generate, joined_mix, short_mix};
 
 const SEED: u64 = 1;
 const CASES: usize = 2_000;
 
 #[test]
 fn generate_is_deterministic() {
-    let first = generate(7, 150).unwrap();
-    assert_eq!(first, generate(7, 150).unwrap());
-    assert_ne!(first, generate(8, 150).unwrap());
+    let first = generate(short_mix, 7, 150).unwrap();
+    assert_eq!(first, generate(short_mix, 7, 150).unwrap());
+    assert_ne!(first, generate(short_mix, 8, 150).unwrap());
 }
 
 #[test]
 fn cases_prints_the_generated_lines() {
-    let (stream, lines) = generate(3, 400).unwrap();
+    let (stream, lines) = generate(short_mix, 3, 400).unwrap();
     let mut printed = Vec::new();
     print_lines(stream.as_slice(), &mut printed).unwrap();
     assert_eq!(printed, lines);
@@ -26,7 +26,7 @@ fn cases_prints_the_generated_lines() {
 
 #[test]
 fn every_ending_refusal_and_kind_is_covered() {
-    let (stream, _) = generate(SEED, CASES).unwrap();
+    let (stream, _) = generate(short_mix, SEED, CASES).unwrap();
     let coverage = coverage(&stream);
     println!("{coverage:#?}, {} bytes", stream.len());
     assert_eq!(coverage.cases, CASES);
@@ -56,4 +56,27 @@ fn every_ending_refusal_and_kind_is_covered() {
     assert!(coverage.indexed_reads.iter().all(|&seen| seen >= 500));
     assert!(coverage.reversed_steps >= 500);
     assert!(coverage.depths.iter().all(|&seen| seen >= 200));
+}
+
+/// The mix of joins and runs of joined files, printed as it says.
+#[test]
+fn every_answer_about_joined_files_is_covered() {
+    let (stream, lines) = generate(joined_mix, SEED, CASES).unwrap();
+    let mut printed = Vec::new();
+    print_lines(stream.as_slice(), &mut printed).unwrap();
+    assert_eq!(printed, lines);
+    let coverage = coverage(&stream);
+    println!("{:#?}, {} bytes", coverage.endings, stream.len());
+    assert_eq!(coverage.cases, CASES);
+    let mut names: Vec<String> = vec!["join joined".into(), "call unknown".into()];
+    names.extend([1, 2, 3, 4, 5, 8, 9].map(|n| format!("join refused{n}")));
+    for form in ["run", "long"] {
+        names.extend(["done", "spent"].map(|ending| format!("{form} {ending}")));
+        names.extend((1..=7).map(|n| format!("{form} trap{n}")));
+        names.extend([6, 7].map(|n| format!("{form} refused{n}")));
+    }
+    for name in &names {
+        let seen = coverage.endings.get(name).copied().unwrap_or(0);
+        assert!(seen >= 3, "{name}: {seen}");
+    }
 }

@@ -2,7 +2,8 @@
 
 mod common;
 use common::*;
-use simulator::cases::{bytes_of, line, print_lines, Case, What};
+use simulator::cases::{bytes_of, line, Case, What};
+use simulator::form::print_lines;
 use simulator::{Settings, State};
 
 fn printed(stream: &[u8]) -> String {

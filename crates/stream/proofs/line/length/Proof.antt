@@ -5,10 +5,10 @@ use Rattle.stream.proofs.line.length.Statement.{statement}
 use Rattle.stream.proofs.line.length.Tie as tie
 
 abbrev Inv-loop : tie.InvT-loop
-Inv-loop name n₀ n = n ≤ 8
+Inv-loop name n₀ n = n ≤ 9
 
 abbrev μ-loop : tie.MeasureT-loop
-μ-loop name n₀ n = 8 - n
+μ-loop name n₀ n = 9 - n
 
 pub length-spec : {M : Type 1} → statement M
 length-spec =

@@ -5,5 +5,5 @@ use std::io::{self, BufReader, BufWriter};
 fn main() -> io::Result<()> {
     let input = BufReader::new(io::stdin().lock());
     let output = BufWriter::new(io::stdout().lock());
-    simulator::cases::print_lines(input, output)
+    simulator::form::print_lines(input, output)
 }

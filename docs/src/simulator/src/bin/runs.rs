@@ -1,4 +1,4 @@
-//! runs stream: writes the stored stream of runs, loads and writes.
+//! runs stream: writes the stored stream of runs, loads, writes and joins.
 //! runs parts: writes its parts, a line each with the name and number of cases.
 
 use std::process::ExitCode;

@@ -3,9 +3,11 @@
 use std::collections::BTreeMap;
 
 use crate::address::{circular_step, plain_step};
-use crate::cases::{line, next_case, Case, What};
+use crate::cases::{Case, What};
 use crate::ending::Ending;
 use crate::engine::{accept, Outcome};
+use crate::form::{forms_of, line, Form};
+use crate::long::Call;
 use crate::memory::Memory;
 use crate::operation::{Change, Operand, Operation, ReadAddress, Register};
 use crate::settings::Settings;
@@ -15,8 +17,8 @@ use crate::step::{Machine, Step};
 #[derive(Clone, Debug, Default)]
 pub struct Coverage {
     pub cases: usize,
-    /// Runs by their ending, loads and writes by their answer: `run done`,
-    /// `run trap3`, `load refused2`, `write written`.
+    /// Runs by their ending, other calls by their answer: `run done`, `run trap3`,
+    /// `load refused2`, `write written`, `long done`, `join refused9`, `call unknown`.
     pub endings: BTreeMap<String, usize>,
     /// Executions of each kind, traps without effect not counted.
     pub kinds: [u64; 26],
@@ -37,23 +39,24 @@ pub struct Coverage {
 }
 
 /// The coverage of a whole stream.
-pub fn coverage(mut stream: &[u8]) -> Coverage {
+pub fn coverage(stream: &[u8]) -> Coverage {
     let mut coverage = Coverage::default();
-    while let Ok(Ok(case)) = next_case(&mut stream) {
-        coverage.add(&case);
+    for form in forms_of(stream) {
+        coverage.add(&form);
     }
     coverage
 }
 
 impl Coverage {
-    fn add(&mut self, case: &Case) {
+    fn add(&mut self, form: &Form) {
         self.cases += 1;
-        let name = match case.what {
-            What::Run => format!("run {}", self.add_run(case)),
-            What::Load => format!("load {}", first_field(case)),
-            What::Write => format!("write {}", first_field(case)),
+        let call = call_of(form);
+        let answer = match form {
+            Form::Short(case) if case.what == What::Run => self.add_run(case).to_string(),
+            Form::Long(long) if long.call == Call::Run => self.add_run(&long.start).to_string(),
+            _ => first_field(form),
         };
-        *self.endings.entry(name).or_default() += 1;
+        *self.endings.entry(format!("{call} {answer}")).or_default() += 1;
     }
 
     /// Count a run's start, and its kinds by stepping through it.
@@ -172,7 +175,23 @@ fn storing_up(operation: &Operation) -> Option<Register> {
     (change == Change::Up).then_some(pointer)
 }
 
-fn first_field(case: &Case) -> String {
-    let line = line(case);
+fn first_field(form: &Form) -> String {
+    let line = line(form);
     line.split(' ').next().unwrap_or_default().to_string()
+}
+
+/// What a case asks for; `long` is a run in the long form.
+fn call_of(form: &Form) -> &'static str {
+    match form {
+        Form::Short(case) => match case.what {
+            What::Run => "run",
+            What::Load => "load",
+            What::Write => "write",
+        },
+        Form::Long(long) => match long.call {
+            Call::Run => "long",
+            Call::Join => "join",
+            Call::Unknown(_) => "call",
+        },
+    }
 }

@@ -12,9 +12,11 @@ pub mod layout;
 pub mod misses;
 pub mod onward;
 pub mod ops;
+pub mod pairs;
 pub mod places;
 pub mod program;
 pub mod random;
+pub mod random_form;
 pub mod requests;
 pub mod runs;
 pub mod services;
@@ -27,8 +29,10 @@ pub mod tiny;
 
 use std::io::{self, Write};
 
-use crate::cases::{bytes_of, line, Case, What};
+use crate::cases::{Case, What};
+use crate::form::{bytes_of, line, Form};
 use random::Random;
+use random_form::random_form;
 
 /// One case of the mix.
 pub fn random_case(random: &mut Random) -> Case {
@@ -64,26 +68,39 @@ fn copy_case(random: &mut Random, what: What) -> Case {
     case
 }
 
-/// Write a stream of so many cases, and its lines.
+/// One case of a mix.
+pub type Mix = fn(&mut Random) -> Form;
+
+/// The mix of short cases: runs, loads and writes.
+pub fn short_mix(random: &mut Random) -> Form {
+    Form::Short(random_case(random))
+}
+
+/// The mix of joins and runs of joined files, short and long.
+pub fn joined_mix(random: &mut Random) -> Form {
+    random_form(random)
+}
+
+/// Write a stream of so many cases of a mix, and its lines.
 pub fn generate_into(
-    seed: u64,
-    count: usize,
+    mix: Mix,
+    (seed, count): (u64, usize),
     mut stream: impl Write,
     mut lines: impl Write,
 ) -> io::Result<()> {
     let mut random = Random::new(seed);
     for _ in 0..count {
-        let case = random_case(&mut random);
-        stream.write_all(&bytes_of(&case))?;
-        writeln!(lines, "{}", line(&case))?;
+        let form = mix(&mut random);
+        stream.write_all(&bytes_of(&form))?;
+        writeln!(lines, "{}", line(&form))?;
     }
     stream.flush()?;
     lines.flush()
 }
 
 /// The same in memory.
-pub fn generate(seed: u64, count: usize) -> io::Result<(Vec<u8>, Vec<u8>)> {
+pub fn generate(mix: Mix, seed: u64, count: usize) -> io::Result<(Vec<u8>, Vec<u8>)> {
     let (mut stream, mut lines) = (Vec::new(), Vec::new());
-    generate_into(seed, count, &mut stream, &mut lines)?;
+    generate_into(mix, (seed, count), &mut stream, &mut lines)?;
     Ok((stream, lines))
 }

@@ -1,6 +1,7 @@
 -- `ending::Ending::name` meets its contract. Assumes nothing.
 use borrow.Author.Needs.{needs}
 use Rattle.engine.specs.Ending.{nameOf}
+use Rattle.engine.proofs.Names.{trap-name, refused-name}
 use Rattle.engine.proofs.ending.Ending.name.Statement.{statement}
 use Rattle.engine.proofs.ending.Ending.name.Tie as tie
 
@@ -13,12 +14,10 @@ unfolding nameOf
 returns-2 c = rw (c .before .before .enum-told2 .given .1)
 
 returns-3 : tie.Need-returns-3
-unfolding nameOf
-returns-3 c = rw (c .before .before .self .given .1, c .digit .ensures)
+returns-3 c = rw (c .before .before .self .given .1, c .decimal .ensures) (trap-name _)
 
 returns-4 : tie.Need-returns-4
-unfolding nameOf
-returns-4 c = rw (c .before .before .self2 .given .1, c .digit2 .ensures)
+returns-4 c = rw (c .before .before .self2 .given .1, c .decimal2 .ensures) (refused-name _)
 
 pub name-spec : {M : Type 1} → statement M
 name-spec =
@@ -29,7 +28,11 @@ name-spec =
     (λ c. search needs)
     (λ c κs. search needs)
     (λ c. search needs)
+    (λ c. search needs)
+    (λ c. search needs)
     (λ c κs. search needs)
+    (λ c. search needs)
+    (λ c. search needs)
     returns
     returns-2
     returns-3

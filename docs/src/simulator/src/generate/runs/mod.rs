@@ -1,4 +1,4 @@
-//! The stored stream of runs, loads and writes for the program `cases`.
+//! The stored stream of runs, loads, writes and joins for the program `cases`.
 
 pub mod budgets;
 pub mod build;
@@ -6,6 +6,8 @@ pub mod carried;
 pub mod copies;
 pub mod early;
 pub mod filters;
+pub mod joined;
+pub mod joins;
 pub mod kinds;
 pub mod long;
 pub mod nests;
@@ -13,15 +15,19 @@ pub mod refused;
 pub mod sizes;
 pub mod starts;
 pub mod sums;
+pub mod unknown;
 
 use super::bench::Bench;
 use super::random::Random;
 use super::random_case;
-use crate::cases::{bytes_of, Case};
+use super::random_form::random_form;
+use crate::cases::{self, Case};
 use crate::file::BLOCK;
+use crate::form::{bytes_of, Form};
 
 const SEED: u64 = 20;
 const RANDOM_CASES: usize = 2_000;
+const RANDOM_FORMS: usize = 200;
 /// The longest file and the most words of the stored random cases.
 const SMALL_FILE: usize = 3 * BLOCK;
 const SMALL_MEMORY: usize = 400;
@@ -45,28 +51,33 @@ const PARTS: [Part; 11] = [
 ];
 
 /// The parts of the stored stream with their names, in order.
-pub fn parts() -> Vec<(&'static str, Vec<Case>)> {
+pub fn parts() -> Vec<(&'static str, Vec<Form>)> {
+    let short = |cases: Vec<Case>| cases.into_iter().map(Form::Short).collect();
     let made = |(name, cases): Part| {
         let cases = cases().into_iter().map(|bench| bench.case);
-        (name, cases.collect())
+        (name, short(cases.collect()))
     };
     let mut parts: Vec<_> = PARTS.into_iter().map(made).collect();
-    parts.push(("copies", copies::cases()));
-    parts.push(("random", random_cases()));
+    parts.push(("copies", short(copies::cases())));
+    parts.push(("random", short(random_cases())));
+    parts.push(("joins", joins::cases()));
+    parts.push(("joined", joined::cases()));
+    parts.push(("unknown", unknown::cases()));
+    parts.push(("random_forms", random_forms()));
     parts
 }
 
 /// The stored stream: all parts, then a case that breaks off in its memory.
 pub fn stream() -> Vec<u8> {
-    let cases = parts().into_iter().flat_map(|(_, cases)| cases);
-    let mut stream: Vec<u8> = cases.flat_map(|case| bytes_of(&case)).collect();
+    let forms = parts().into_iter().flat_map(|(_, forms)| forms);
+    let mut stream: Vec<u8> = forms.flat_map(|form| bytes_of(&form)).collect();
     stream.extend(broken());
     stream
 }
 
 /// A whole case but for the last seven bytes of its memory.
 fn broken() -> Vec<u8> {
-    let mut bytes = bytes_of(&Bench::one(super::ops::mac(0)).case);
+    let mut bytes = cases::bytes_of(&Bench::one(super::ops::mac(0)).case);
     bytes.truncate(bytes.len() - 7);
     bytes
 }
@@ -76,12 +87,36 @@ fn random_cases() -> Vec<Case> {
     (0..RANDOM_CASES).map(|_| small_case(&mut random)).collect()
 }
 
+/// Whether file and memory are small.
+fn is_small(case: &Case) -> bool {
+    case.file.len() <= SMALL_FILE && case.memory.len() <= SMALL_MEMORY
+}
+
 /// The next random case with a small file and memory.
 fn small_case(random: &mut Random) -> Case {
     loop {
         let case = random_case(random);
-        if case.file.len() <= SMALL_FILE && case.memory.len() <= SMALL_MEMORY {
+        if is_small(&case) {
             return case;
+        }
+    }
+}
+
+fn random_forms() -> Vec<Form> {
+    let mut random = Random::new(SEED);
+    (0..RANDOM_FORMS).map(|_| small_form(&mut random)).collect()
+}
+
+/// The next random case of either form with small files and memory.
+fn small_form(random: &mut Random) -> Form {
+    loop {
+        let form = random_form(random);
+        let small = match &form {
+            Form::Short(case) => is_small(case),
+            Form::Long(long) => is_small(&long.start) && long.second.len() <= SMALL_FILE,
+        };
+        if small {
+            return form;
         }
     }
 }

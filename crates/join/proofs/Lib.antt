@@ -1,0 +1,11 @@
+pub mod Examples
+pub mod Moved
+pub mod Bytes
+pub mod Refusals
+pub mod Whole
+pub mod Loads
+pub mod Steps
+pub mod Sequel
+pub mod Calls
+pub mod Joins
+pub mod Contracts

@@ -1,0 +1,119 @@
+-- The joined program runs as its two parts one after the other. Assumes nothing.
+use Prim.Native.Nat.{ℕ, _-_, _≤_, _<_}
+use mathlib.Core.Bool.{true, false}
+use mathlib.Core.List.{List}
+use mathlib.Core.Path.{_≡_, refl, sym, ap, _∙_}
+use native.Mathlib.Nat.{add-zero}
+use native.Mathlib.Omega.{arith}
+use borrow.Author.Tests.{eqb-true, eqb-false, ne-eqb}
+use lib.Dec.{eqb}
+use lib.ListN.{length}
+use Rattle.operations.specs.declared.operation.Operation.{Operation}
+use Rattle.program.specs.Placement.{lastOf}
+use Rattle.state.specs.State.{restartedState}
+use Rattle.state.specs.declared.settings.Settings.{Settings}
+use Rattle.state.specs.declared.state.State.{State}
+use Rattle.machine.specs.Loops.{innerStart}
+use Rattle.machine.specs.Step.{Step, stepped}
+use Rattle.machine.proofs.Seen.{stepped-seen}
+use Rattle.machine.proofs.Stands.{restart-stands}
+use Rattle.machine.proofs.Ends.{done-loops, done-repeat}
+use Rattle.engine.specs.Run.{isDone, Result}
+use Rattle.engine.specs.Engine.{Engine, turnOf, engineTurn, engineDone, engineFrom, engineRun}
+use Rattle.engine.proofs.Fits.{Fit, turn-fits}
+use Rattle.engine.proofs.Runs.{Keeps, turnTo, run-maps, Avoids, thenOn, run-then}
+use Rattle.engine.proofs.Split.{later, engine-ends, engine-later}
+use Rattle.join.specs.Join.{joined}
+use Rattle.join.specs.Both.{movedEngine, movedResult}
+use Rattle.join.proofs.Moved.{joined-length, first-operation, first-role}
+use Rattle.join.proofs.Whole.{Accepted}
+use Rattle.join.proofs.Steps.{moved-test, eqb-moved, movedStep, nested-tied, stepped-moved}
+
+-- the engine at its program's first operation, no loop, no repeat
+abbrev pub restartedEngine : Engine → Engine
+restartedEngine x = record { state = restartedState (x .state); memory = x .memory }
+
+module _ (p q : List Operation) (ok : Accepted p) (ok′ : Accepted q) (settings : Settings) (words : ℕ) where
+  abbrev n : ℕ
+  n = length p
+
+  -- ---- at an operation of the first
+
+  first-turn : (x : Engine) → x .state .core .pc < n → Fit p words x → engineTurn (joined p q) settings x ≡ engineTurn p settings x
+  unfolding engineTurn
+  first-turn x below h =
+      let l = x .state .core .loops in
+      ap turnOf
+      (stepped-seen (joined p q) p settings (x .state) (x .memory) (first-operation p q (x .state .core .pc) below)
+      (λ some.
+      let start : innerStart l < x .state .core .pc = h .stands .nested .begun (l .depth - 1) (omega arith) in
+      ap lastOf (first-role p q (innerStart l) (omega arith))))
+
+  first-same : (k : ℕ) (x : Engine) → engineDone p x ≡ false → Fit p words x
+      → (engineDone (joined p q) x ≡ false) × (engineTurn (joined p q) settings x ≡ engineTurn p settings x)
+      × Avoids isDone (engineTurn p settings x) × Keeps (Fit p words) (Fit p words) (engineTurn p settings x)
+  first-same k x more h =
+      let c = x .state .core in
+      let most : c .pc ≤ n = h .stands .at in
+      let apart : c .pc ≡ n → ⊥ = eqb-false (c .pc) n more in
+      let below : c .pc < n = omega arith in (
+        ne-eqb (c .pc) (length (joined p q)) (λ e. omega (arith, e, joined-length p q)),
+        first-turn x below h,
+        engine-ends isDone (λ trap. refl) p settings x,
+        turn-fits p (ok .placed) (ok .listed) settings words x more h,
+      )
+
+  -- ---- at an operation of the second
+
+  turn-moved : (r : Step) → turnOf (movedStep n r) ≡ turnTo (movedEngine n) (turnOf r)
+  turn-moved r =
+      moved-test (turnTo (movedEngine n)) (r .counted) (λ e. moved-test (turnTo (movedEngine n)) (eqb (r .trap) 0) (λ f. refl) (λ f. refl)) (λ e. refl)
+
+  second-moved : (k : ℕ) (x : Engine) → engineDone q x ≡ false → Fit q words x
+      → (engineTurn (joined p q) settings (movedEngine n x) ≡ turnTo (movedEngine n) (engineTurn q settings x))
+      × Keeps (Fit q words) (Fit q words) (engineTurn q settings x)
+  unfolding engineTurn
+  second-moved k x more h = (
+    ap turnOf (stepped-moved p q settings (x .state) (x .memory) (nested-tied p q (x .state .core .pc) (x .state .core .loops) (h .stands .nested)))
+        ∙ turn-moved (stepped q settings (x .state) (x .memory)),
+    turn-fits q (ok′ .placed) (ok′ .listed) settings words x more h,
+  )
+
+  second-done : (x : Engine) → engineDone q x ≡ engineDone (joined p q) (movedEngine n x)
+  second-done x = sym (rw (joined-length p q) (eqb-moved n (x .state .core .pc) (length q)))
+
+  -- ---- where the first is done
+
+  module _ (x : Engine) (done : engineDone p x ≡ true) (h : Fit p words x) where
+    -- but for pc the engine is one that begins the second
+    left-moved : x ≡ movedEngine n (restartedEngine x)
+    unfolding restartedState
+    left-moved =
+        let at : x .state .core .pc ≡ n = eqb-true (x .state .core .pc) n done in
+        rw (add-zero n, ← at, ← done-loops p (ok .placed) (x .state .core) at (h .stands), ← done-repeat p (ok .placed) (x .state .core) at (h .stands))
+
+    left-fits : Fit q words (restartedEngine x)
+    left-fits = record { stands = restart-stands p q (x .state) (h .stands); ram = h .ram; long = h .long }
+
+    -- the joined program goes on as the second, moved, with k steps made before it
+    second-runs : (m k : ℕ)
+        → engineFrom (joined p q) settings m k x ≡ movedResult n k (engineRun q settings m (restartedState (x .state)) (x .memory))
+    unfolding engineRun
+    second-runs m k =
+        engine-later (joined p q) settings m k x
+        ∙ ap (λ (z : Engine). later k (engineFrom (joined p q) settings m 0 z)) left-moved
+        ∙ ap (later k)
+        (run-maps (movedEngine n) (Fit q words) (engineDone q) (engineDone (joined p q)) (λ i. engineTurn q settings) (λ i. engineTurn (joined p q) settings)
+        (λ y g. second-done y) second-moved m 0 (restartedEngine x) left-fits)
+
+  -- ---- the whole run: where the first is done, the second's run in any words `on` that are right there
+
+  pub joined-runs : (budget : ℕ) (s : State) (memory : List ℕ) → Fit p words (record { state = s; memory = memory })
+      → (on : ℕ → ℕ → Engine → Result Engine)
+      → ((m k : ℕ) (x : Engine) → Fit p words x → movedResult n k (engineRun q settings m (restartedState (x .state)) (x .memory)) ≡ on m k x)
+      → engineRun (joined p q) settings budget s memory ≡ thenOn on budget (engineRun p settings budget s memory)
+  unfolding engineRun
+  joined-runs budget s memory h on same =
+      run-then (engineDone p) (engineDone (joined p q)) (λ k. engineTurn p settings) (λ k. engineTurn (joined p q) settings) (Fit p words) on
+      first-same (λ m k x done g. second-runs x done g m k ∙ same m k x g) budget 0 (record { state = s; memory = memory }) h
+      ∙ ap (λ (t : ℕ). thenOn on t (engineRun p settings budget s memory)) (add-zero budget)
