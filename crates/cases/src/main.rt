@@ -2,6 +2,7 @@
 use engine::call::run;
 use join::call::join;
 use libc::STDIN_FILENO;
+use program::answer::Answer;
 use program::file::load;
 use program::write::write;
 use stream::header;
@@ -11,6 +12,7 @@ use stream::number::print_text;
 ghost use mathlib.Core.Path.{_≡_};
 ghost use Prim.Native.Nat.{_*_, _≤_};
 ghost use lib.ListN.{length};
+ghost use Rattle.join.specs.Call.{Joins};
 
 // What a case asks for stands in byte 111 of its header. From here on the case has the long form.
 const LONG: u8 = 16;
@@ -55,11 +57,18 @@ fn answer_filled(what: u8, input: &[u8], slice: &mut [u8]) {
     }
 }
 
+// A join, by the promise of the call.
+fn joined(first: &[u8], second: &[u8], out: &mut [u8]) -> Answer
+    ensures { λ r. ⌜ Joins (now (first .entry)) (now (second .entry)) (now (out .entry)) r (now (out .exit)) ⌝ }
+{
+    join(first, second, out)
+}
+
 // A join, and its line.
 fn answer_join(first: &[u8], second: &[u8], out: &mut [u8]) {
     count_up(out);
-    let joined = join(first, second, out);
-    line::print_filled(b"joined", joined, out);
+    let answer = joined(first, second, out);
+    line::print_filled(b"joined", answer, out);
 }
 
 // What a case asks for is a load (1) or a write (2).

@@ -1,8 +1,7 @@
 -- The names of endings in ASCII, written out by hand, and their numbers and codes. Assumes nothing.
 use mathlib.Core.Path.{_≡_, refl}
-use mathlib.Core.List.{List, [], _∷_, map}
+use mathlib.Core.List.{[], _∷_, map}
 use Rattle.engine.specs.Ending.{numberOf, decimalOf, nameOf, codeOf}
-use Rattle.engine.specs.declared.ending.Ending.{Ending}
 use Rattle.engine.specs.declared.ending.Ending.the-variants.{Done, Spent, Trap, Refused}
 
 -- done, spent

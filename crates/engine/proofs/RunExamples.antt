@@ -33,14 +33,14 @@ use Rattle.effects.specs.declared.access.Place.{Place}
 use Rattle.effects.specs.declared.access.Place.the-variants.{Register, Memory}
 use Rattle.machine.specs.Control.{controlOf, clears}
 use Rattle.machine.specs.Step.{operationAt}
-use Rattle.engine.specs.Run.{Stop, Result}
+use Rattle.engine.specs.Run.{Stop, isDone, Result}
 use Rattle.engine.specs.Run.Stop.{ended, left}
 use Rattle.engine.specs.Engine.{Engine}
 use Rattle.engine.specs.Ledger.{Entry, Ledger}
 use Rattle.engine.specs.Holds.{holds}
 use Rattle.engine.specs.Exact.{holdsClear, wordIn, storedAt}
 use Rattle.engine.specs.declared.ending.Ending.{Ending}
-use Rattle.engine.specs.declared.ending.Ending.the-variants.{Done, Spent, Trap}
+use Rattle.engine.specs.declared.ending.Ending.the-variants.{Done, Spent, Trap, Refused}
 use Rattle.engine.proofs.Opened.{engine, exact}
 use Rattle.engine.proofs.Holds.{none-holds}
 
@@ -94,6 +94,10 @@ abbrev adds : Target → Operation
 adds t = Add t 8 (Direct 0)
 
 -- ---- done and spent
+
+-- only an ending as done is one
+is-done : map isDone (ended Done ∷ ended Spent ∷ ended (Trap 5) ∷ ended (Refused 7) ∷ left ∷ []) ≡ true ∷ false ∷ false ∷ false ∷ false ∷ []
+is-done = refl
 
 abbrev literals : List Operation
 literals = Literal 0 7 ∷ Literal 1 8 ∷ []

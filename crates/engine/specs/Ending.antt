@@ -7,7 +7,7 @@ use lib.ListN.{length, replicate}
 use Rattle.engine.specs.declared.ending.Ending.{Ending}
 use Rattle.engine.specs.declared.ending.Ending.the-variants.{Done, Spent, Trap, Refused}
 
--- trap1..trap7, refused1..refused15; done and spent have no number
+-- trap1..trap7, refused1..refused7; done and spent have no number
 unfoldable pub numberOf : Ending → ℕ
 numberOf Done = 0
 numberOf Spent = 0

@@ -2,8 +2,8 @@
 ghost use mathlib.Core.Path.{_≡_};
 ghost use Rattle.engine.specs.Ending.{digitOf, decimalOf, filledTo, nameOf, numberOf, codeOf};
 
-// Done: pc is the count of operations. Spent: the budget's steps are made. Trap: its number, 1 to 7. Refused: its number, 1 to 7 of `run`, up to 15 of
-// other calls.
+// Done: pc is the count of operations. Spent: the budget's steps are made. Trap: its number, 1 to 7. Refused: its number, 1 to 7 of a run; names have
+// room for two digits.
 pub enum Ending {
     Done,
     Spent,

@@ -68,7 +68,7 @@ module _ (first second out : List ℕ) (answer : Answer) (after : List ℕ) (non
         as-second done r₂ left₂ two =
             whole .runs ∙ made .runs none settings s memory budget typed ram start ∙ rw (← one .runs, done, ← two .runs)
 
-      -- the second's call is never refused: it is the run of its program
+      -- where the first's call is not refused, the second's is not: it is the run of its program
       pub second-runs : callRefusal first settings s (length memory) ≡ 0 → (m : ℕ) (r₂ : Outcome) (left₂ : List ℕ)
           → Runs second settings (restartedState (r₁ .state)) left₁ m r₂ left₂
           → resultOf r₂ left₂ ≡ engineRun (programOf second) settings m (restartedState (r₁ .state)) left₁

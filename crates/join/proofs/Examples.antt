@@ -9,8 +9,10 @@ use Rattle.accumulator.specs.declared.mode.Target.{Target}
 use Rattle.accumulator.specs.declared.mode.Target.the-variants.{A, B}
 use Rattle.operations.specs.Encode.{encodeOf}
 use Rattle.operations.specs.declared.operation.Operand.the-variants.{Register as Direct}
+use Rattle.operations.specs.declared.operation.PostModification.the-variants.{None as Stays}
 use Rattle.operations.specs.declared.operation.Operation.{Operation}
-use Rattle.operations.specs.declared.operation.Operation.the-variants.{AddAccumulators, Shift, Add, Literal, Repeat, RepeatRegister, Do, DoRegister, EndEarly}
+use Rattle.operations.specs.declared.operation.Operation.the-variants.{AddAccumulators, Shift, Add, Literal, Load, Store, Repeat, RepeatRegister, Do, DoRegister, EndEarly}
+use Rattle.program.specs.Answer.{roomRefusal}
 use Rattle.program.specs.File.{operationCount, fileRefusal}
 use Rattle.program.specs.Write.{fileOf}
 use Rattle.program.specs.declared.answer.Answer.the-variants.{Written, Refused as AnswerRefused}
@@ -94,7 +96,7 @@ blocks = (refl, refl, refl, refl)
 
 -- ---- a result counted from the joined program's start
 
--- one or two active loops of four slots, with 5 operations before; no loop
+-- one, two and four active loops of four slots, with 5 operations before; no loop
 moved-loops :
     (movedLoops 5 (slots (2 ∷ 0 ∷ 0 ∷ 0 ∷ []) (9 ∷ 0 ∷ 0 ∷ 0 ∷ []) 1) ≡ slots (7 ∷ 0 ∷ 0 ∷ 0 ∷ []) (9 ∷ 0 ∷ 0 ∷ 0 ∷ []) 1)
     × (movedLoops 5 (slots (0 ∷ 1 ∷ 0 ∷ 0 ∷ []) (9 ∷ 8 ∷ 0 ∷ 0 ∷ []) 2) ≡ slots (5 ∷ 6 ∷ 0 ∷ 0 ∷ []) (9 ∷ 8 ∷ 0 ∷ 0 ∷ []) 2)
@@ -144,6 +146,22 @@ kept :
 unfolding both joinedFile joinedBytes joined movedOperation
 kept = (refl, refl)
 
+-- nor memory and the O flags: the first stores 9 over word 0, the second loads it; no accumulator is written
+abbrev storing : List Operation
+storing = Literal 0 9 ∷ Literal 8 0x1000 ∷ Store 0 8 Stays ∷ []
+
+abbrev loading : List Operation
+loading = Load 1 8 Stays ∷ []
+
+abbrev overflowed : State
+overflowed = start but flags true true false false
+
+left-over :
+    Both (both (file storing) (file loading) plain overflowed memory 99) (call (joinedFile (file storing) (file loading)) plain overflowed memory 99)
+    (ends Done 4 (overflowed but at 4 but reg 0 9 but reg 1 9 but reg 8 0x1000) (set memory 0 9))
+unfolding both joinedFile joinedBytes joined movedOperation
+left-over = (refl, refl)
+
 -- a trap in the first ends the run there: 3 at its second operation, a shift by 17, with no step; 6 at its last, complete and counted, pc past it
 abbrev shifting : List Operation
 shifting = Literal 0 17 ∷ Shift A 0 ∷ []
@@ -188,15 +206,17 @@ short = drop 1 (file opening)
 abbrev unsummed : List ℕ
 unsummed = set (file opening) 4 0
 
--- the first's before the second's, both before 8; 8 for room of 511 bytes
+-- the first's before the second's, both before 8; 8 for room one byte short of one block and of two
 joins :
     (joinRefusal unsummed short 0 ≡ 2)
     × (joinRefusal short unsummed 0 ≡ 1)
     × (joinRefusal (file opening) unsummed 0 ≡ 2)
     × (joinRefusal (file opening) (file closing) 511 ≡ 8)
     × (joinRefusal (file opening) (file closing) 512 ≡ 0)
+    × (joinRefusal (early 62) (early 2) 1023 ≡ 8)
+    × (joinRefusal (early 62) (early 2) 1024 ≡ 0)
 unfolding call joinRefusal joinedFile joinedBytes joined movedOperation
-joins = (refl, refl, refl, refl, refl)
+joins = (refl, refl, refl, refl, refl, refl, refl)
 
 -- 4,032 operations together are joined, 4,033 are not
 most : (togetherRefusal 4032 ≡ 0) × (togetherRefusal 4033 ≡ 9)
@@ -215,6 +235,12 @@ nine-first : (first second : List ℕ) (room : ℕ) → fileRefusal first ≡ 0 
     → joinRefusal first second room ≡ 9
 unfolding joinRefusal
 nine-first first second room e e′ many = rw (e, e′, many)
+
+-- 8 exactly where the room is shorter than the joined file
+eight-last : (first second : List ℕ) (room : ℕ) → fileRefusal first ≡ 0 → fileRefusal second ≡ 0
+    → togetherRefusal (operationCount first + operationCount second) ≡ 0 → joinRefusal first second room ≡ roomRefusal (length (joinedFile first second)) room
+unfolding joinRefusal
+eight-last first second room e e′ few = rw (e, e′, few)
 
 -- ---- what is written
 

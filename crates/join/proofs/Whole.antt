@@ -1,17 +1,17 @@
 -- A joined program is accepted: its fields are listed, its DOs and REPEATs stand where they may. Assumes nothing.
 use Prim.Native.Nat.{ℕ, _+_, _-_, _≤_, _<_}
-use mathlib.Core.Bool.{Bool, true, false, not, _&&_}
+use mathlib.Core.Bool.{Bool, true, false, not}
 use mathlib.Core.List.{List}
 use mathlib.Core.Path.{_≡_, refl, subst, _∙_}
 use native.Mathlib.Nat.{add-assoc, zero-add}
 use native.Mathlib.Omega.{arith}
 use borrow.Author.Tests.{ltb-true, ltb-false, lt-ltb, le-leb}
-use lib.Dec.{ltb, leb}
+use lib.Dec.{ltb}
 use lib.ListN.{length}
 use Rattle.integers.proofs.Whole.{both}
 use Rattle.operations.specs.Listed.{isRegister, isWord, isCount, isListed}
 use Rattle.operations.specs.declared.operation.Operation.{Operation}
-use Rattle.program.specs.Placement.{roleOf, roleAt, isPlain, isRepeat, lastOf, endsBelow, isInner, isNested, isPlacedAs, isPlacedAt, isPlaced}
+use Rattle.program.specs.Placement.{roleOf, roleAt, isPlain, isRepeat, lastOf, endsBelow, isInner, isPlacedAs, isPlacedAt, isPlaced}
 use Rattle.program.specs.declared.placement.Role.{Role}
 use Rattle.program.specs.declared.placement.Role.the-variants.{Plain, Repeats, Loops as Looped}
 use Rattle.program.proofs.Placed.{role-is, all-of, loop-placed, last-below, repeat-placed}
@@ -25,9 +25,6 @@ pub record Accepted (p : List Operation) : Type 0 where
   pub few : length p ≤ 4032
   pub listed : (i : ℕ) → i < length p → isListed (operationAt p i) ≡ true
   pub placed : isPlaced p ≡ true
-
-conj : (t u : Bool) → t ≡ true → u ≡ true → (t && u) ≡ true
-conj t u h h′ = rw (h, h′)
 
 -- ---- roles, moved
 
@@ -58,18 +55,22 @@ module _ (p r : List Operation) (n : ℕ) (placed : isPlaced r ≡ true) (fits :
   part-loop : (i e : ℕ) → i < length r → roleAt r i ≡ Looped e → isPlacedAs p (n + i) (Looped (n + e)) ≡ true
   part-loop i e l is =
       let h = loop-placed r placed i e l is in
-      conj (leb (n + i + 2) (n + e)) _ (le-leb (n + i + 2) (n + e) (omega (arith, h .room)))
-      (conj (ltb (n + e) (length p)) _ (lt-ltb (n + e) (length p) (omega (arith, h .ends)))
-      (conj (not (isRepeat (roleAt p (n + e)))) (isNested p (n + i) (n + e)) (rw (roles e (h .ends)) (moved-repeat n (roleAt r e) (h .last)))
-      (all-of (isInner p (n + i) (n + e)) (n + e - (n + i))
-      (λ j k.
+      let inner : (j : ℕ) → j < n + e - (n + i) → isInner p (n + i) (n + e) j ≡ true =
+      λ j k.
       let at : n + i + 1 + j ≡ n + (i + 1 + j) = omega arith in
-      rw (at, roles (i + 1 + j) (omega (arith, h .ends))) (moved-ends n e (roleAt r (i + 1 + j)) (h .inner (i + 1 + j) (omega arith) (omega arith)))))))
+      rw (at, roles (i + 1 + j) (omega (arith, h .ends))) (moved-ends n e (roleAt r (i + 1 + j)) (h .inner (i + 1 + j) (omega arith) (omega arith))) in
+      rw (
+        le-leb (n + i + 2) (n + e) (omega (arith, h .room)),
+        lt-ltb (n + e) (length p) (omega (arith, h .ends)),
+        roles e (h .ends),
+        moved-repeat n (roleAt r e) (h .last),
+        all-of (isInner p (n + i) (n + e)) (n + e - (n + i)) inner,
+      )
 
   part-repeat : (i : ℕ) → i < length r → roleAt r i ≡ Repeats → isPlacedAs p (n + i) Repeats ≡ true
   part-repeat i l is =
       let (more, plain) = repeat-placed r placed i l is in
-      conj _ _ (lt-ltb (n + i + 1) (length p) (omega arith)) (rw (add-assoc n i 1, roles (i + 1) more) (moved-plain n (roleAt r (i + 1)) plain))
+      rw (lt-ltb (n + i + 1) (length p) (omega arith), add-assoc n i 1, roles (i + 1) more) (moved-plain n (roleAt r (i + 1)) plain)
 
   part-placed : (i : ℕ) → i < length r → isPlacedAt p (n + i) ≡ true
   part-placed i l = rw (roles i l) (go (roleAt r i) refl)
@@ -86,8 +87,8 @@ listed-moved : (n : ℕ) (o : Operation) → n + lastOf (roleOf o) < 65536 → i
 unfolding isListed
 listed-moved n =
     by-moved n (λ o o′. n + lastOf (roleOf o) < 65536 → isListed o ≡ true → isListed o′ ≡ true) (λ o e z l ok. ok)
-    (λ count last l ok. conj (isCount count) (isWord (n + last)) (both (isCount count) (isWord last) ok .0) (lt-ltb (n + last) 65536 l))
-    (λ r last l ok. conj (isRegister r) (isWord (n + last)) (both (isRegister r) (isWord last) ok .0) (lt-ltb (n + last) 65536 l))
+    (λ count last l ok. rw (both (isCount count) (isWord last) ok .0, lt-ltb (n + last) 65536 l))
+    (λ r last l ok. rw (both (isRegister r) (isWord last) ok .0, lt-ltb (n + last) 65536 l))
 
 -- ---- the whole
 

@@ -42,8 +42,8 @@ movedResult n k r = record { machine = movedEngine n (r .machine); steps = k + r
 
 -- ---- the second after the first
 
--- the call for a run of the second file after r, the first's of n operations: from the state and memory left, at its own first operation, with what is left
--- of the budget
+-- the call for a run of the second file, where r is the first's result and n its count: from the state and memory left, at its own first operation, with what
+-- is left of the budget
 abbrev pub sequel : ℕ → List ℕ → Settings → ℕ → Result Engine → Result Engine
 sequel n second settings budget r =
     movedResult n (r .steps) (runOf second settings (restartedState (r .machine .state)) (r .machine .memory) (budget - r .steps))

@@ -40,7 +40,7 @@ pub record Joins (first second out : List ℕ) (answer : Answer) (after : List �
       callRefusal first settings s (length memory) ≡ 0 →
       let x = runOf first settings s memory budget .machine in
       callRefusal second settings (restartedState (x .state)) (length (x .memory)) ≡ 0
-  -- exact sums: it holds an operation that clears a saturation flag where one of the two files does
+  -- exact sums: it holds an operation that clears a saturation flag exactly where one of the two files does
   pub clears :
       joinRefusal first second (length out) ≡ 0 →
       holdsClear (programOf (writtenIn answer after)) ≡ (holdsClear (programOf first) || holdsClear (programOf second))

@@ -76,7 +76,7 @@ module _ (p : List Operation) (placed : isPlaced p ≡ true) where
             (subst (λ (j : ℕ). endsBelow e (roleAt p j) ≡ true) at (all-each (isInner p d e) (e - d) (k - (d + 1)) (omega arith) nested));
       }
 
-  -- the last operation of a DO is one of the program; so is 0
+  -- the last operation of a DO is one of the program; so is 0, which stands for no DO
   pub last-below : (i : ℕ) → i < length p → lastOf (roleAt p i) < length p
   last-below i l = go (roleAt p i) refl
     where
