@@ -33,6 +33,13 @@ pub record Fit (p : List Operation) (words : ℕ) (x : Engine) : Type 0 where
   pub ram : AreWords (x .memory)
   pub long : length (x .memory) ≡ words
 
+-- where it is not done there is an operation at pc
+pub at-operation : (p : List Operation) (words : ℕ) (x : Engine) → engineDone p x ≡ false → Fit p words x → x .state .core .pc < length p
+at-operation p words x more h =
+    let most : x .state .core .pc ≤ length p = h .stands .at in
+    let apart : x .state .core .pc ≡ length p → ⊥ = eqb-false (x .state .core .pc) (length p) more in
+    omega arith
+
 module _ (p : List Operation) (placed : isPlaced p ≡ true) (ok : (i : ℕ) → i < length p → isListed (operationAt p i) ≡ true)
     (settings : Settings) (words : ℕ) where
   -- the memory after a step
@@ -65,11 +72,8 @@ module _ (p : List Operation) (placed : isPlaced p ≡ true) (ok : (i : ℕ) →
   pub turn-fits : (x : Engine) → engineDone p x ≡ false → Fit p words x → Keeps (Fit p words) (Fit p words) (engineTurn p settings x)
   unfolding engineTurn
   turn-fits x more h =
-      let c = x .state .core in
-      let at : c .pc ≤ length p = h .stands .at in
-      let apart : c .pc ≡ length p → ⊥ = eqb-false (c .pc) (length p) more in
       let r = stepped p settings (x .state) (x .memory) in
-      let fit = stepped-fits x (omega arith) h in
+      let fit = stepped-fits x (at-operation p words x more h) h in
       by-test (Keeps (Fit p words) (Fit p words)) (r .counted)
       (λ e. by-test (Keeps (Fit p words) (Fit p words)) (eqb (r .trap) 0) (λ f. fit) (λ f. fit)) (λ e. tt)
 

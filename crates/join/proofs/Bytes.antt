@@ -3,11 +3,10 @@ use Prim.Native.Nat.{ℕ, zero, suc, _+_, _-_, _*_, _/_, _%_, _≤_, _<_, min}
 use mathlib.Core.List.{List, [], _∷_, _++_}
 use mathlib.Core.Path.{_≡_, refl, sym, ap, _∙_}
 use native.Mathlib.Omega.{arith}
-use lib.ListN.{length, getD, set, take, drop, length-take, length-drop, length-append}
+use lib.ListN.{length, set, take, drop, length-take, length-drop, length-append}
 use lib.Seq.{take-at, drop-append-add, take-add, drop-drop}
 use Rattle.operations.specs.Encode.{encodeOf}
 use Rattle.operations.specs.declared.operation.Operation.{Operation}
-use Rattle.operations.specs.declared.operation.Operation.the-variants.{EndEarly}
 use Rattle.operations.proofs.Operations.{encode-length}
 use Rattle.program.specs.File.{operationCount, programOf}
 use Rattle.program.specs.Layout.{bytesOf}
@@ -18,6 +17,7 @@ use Rattle.program.specs.declared.placement.Role.the-variants.{Loops}
 use Rattle.program.proofs.Accepted.{program-length, program-placed}
 use Rattle.program.proofs.Placed.{LoopPlaced, role-is, loop-placed, last-below}
 use Rattle.program.proofs.Slices.{take-min}
+use Rattle.machine.specs.Step.{operationAt}
 use Rattle.join.specs.Join.{movedOperation, joined, encoded, joinedBytes, Joinable}
 use Rattle.join.proofs.Moved.{by-moved, joined-length, first-operation, second-operation}
 
@@ -27,7 +27,7 @@ pub encoded-length : (p : List Operation) → length (encoded p) ≡ 8 * length 
 encoded-length [] = refl
 encoded-length (o ∷ p) = length-append (encodeOf o) (encoded p) ∙ omega (arith, encode-length o, encoded-length p)
 
-pub encoded-at : (p : List Operation) (i : ℕ) → i < length p → bytesOf Consecutive (encoded p) i ≡ encodeOf (getD p i EndEarly)
+pub encoded-at : (p : List Operation) (i : ℕ) → i < length p → bytesOf Consecutive (encoded p) i ≡ encodeOf (operationAt p i)
 encoded-at [] i l = absurd (omega arith)
 encoded-at (o ∷ p) zero l = take-at (encodeOf o) (encoded p) 8 (encode-length o)
 encoded-at (o ∷ p) (suc i) l =
@@ -74,29 +74,29 @@ module _ (first second : List ℕ) (n : ℕ) (h : Joinable first second n) where
   bytes-length = encoded-length (joined p q) ∙ ap (λ (k : ℕ). 8 * k) total
 
   -- an operation of the first
-  pub first-bytes : (i : ℕ) → i < n → encodeOf (getD p i EndEarly) ≡ bytesOf Consecutive (joinedBytes first second) i
+  pub first-bytes : (i : ℕ) → i < n → encodeOf (operationAt p i) ≡ bytesOf Consecutive (joinedBytes first second) i
   unfolding joinedBytes
   first-bytes i l =
       ap encodeOf (sym (first-operation p q i (rw long l)))
       ∙ sym (encoded-at (joined p q) i (omega (arith, total)))
 
   second-bytes : (i : ℕ) → n ≤ i → i < n + operationCount second
-      → encodeOf (movedOperation n (getD q (i - n) EndEarly)) ≡ bytesOf Consecutive (joinedBytes first second) i
+      → encodeOf (movedOperation n (operationAt q (i - n))) ≡ bytesOf Consecutive (joinedBytes first second) i
   unfolding joinedBytes
   second-bytes i lo hi =
       let at : length p + (i - n) ≡ i = omega (arith, long) in
-      ap (λ (k : ℕ). encodeOf (movedOperation k (getD q (i - n) EndEarly))) (sym long)
+      ap (λ (k : ℕ). encodeOf (movedOperation k (operationAt q (i - n)))) (sym long)
       ∙ ap encodeOf (sym (second-operation p q (i - n)))
-      ∙ ap (λ (k : ℕ). encodeOf (getD (joined p q) k EndEarly)) at
+      ∙ ap (λ (k : ℕ). encodeOf (operationAt (joined p q) k)) at
       ∙ sym (encoded-at (joined p q) i (omega (arith, total)))
 
   -- one that is no DO
   pub still-bytes : (i last : ℕ) → n ≤ i → i < n + operationCount second → last ≡ lastOf (roleAt q (i - n)) → last ≡ 0
-      → encodeOf (getD q (i - n) EndEarly) ≡ bytesOf Consecutive (joinedBytes first second) i
+      → encodeOf (operationAt q (i - n)) ≡ bytesOf Consecutive (joinedBytes first second) i
   still-bytes i last lo hi is e =
       let j = i - n in
       ap encodeOf
-      (sym (moved-still n (getD q j EndEarly) (ap lastOf (sym (role-is q j)) ∙ sym is ∙ e)
+      (sym (moved-still n (operationAt q j) (ap lastOf (sym (role-is q j)) ∙ sym is ∙ e)
       (λ z.
       let placed : LoopPlaced q j 0 = loop-placed q (program-placed second (h .secondAccepted)) j 0 (omega (arith, long′)) (role-is q j ∙ z) in
       let room : j + 2 ≤ 0 = placed .room in
@@ -105,9 +105,9 @@ module _ (first second : List ℕ) (n : ℕ) (h : Joinable first second n) where
 
   -- a DO
   pub loop-bytes : (i last : ℕ) → n ≤ i → i < n + operationCount second → last ≡ lastOf (roleAt q (i - n)) → 0 < last
-      → set (set (encodeOf (getD q (i - n) EndEarly)) 4 ((n + last) % 256)) 5 ((n + last) / 256) ≡ bytesOf Consecutive (joinedBytes first second) i
+      → set (set (encodeOf (operationAt q (i - n))) 4 ((n + last) % 256)) 5 ((n + last) / 256) ≡ bytesOf Consecutive (joinedBytes first second) i
   loop-bytes i last lo hi is some =
-      let o = getD q (i - n) EndEarly in
+      let o = operationAt q (i - n) in
       let same : last ≡ lastOf (roleOf o) = is ∙ ap lastOf (role-is q (i - n)) in
       rw same (moved-bytes n o (rw same at some)) ∙ second-bytes i lo hi
 

@@ -1,9 +1,10 @@
--- The operations of a joined program and their roles. Assumes nothing.
-use Prim.Native.Nat.{ℕ, _+_, _<_}
+-- The operations of a joined program and their roles: each part stands in it, moved. Assumes nothing.
+use Prim.Native.Nat.{ℕ, _+_, _≤_, _<_}
 use mathlib.Core.List.{List, map}
 use mathlib.Core.Path.{_≡_, refl, sym, ap, _∙_}
+use native.Mathlib.Nat.{zero-add}
 use native.Mathlib.Omega.{arith}
-use lib.ListN.{length, getD, length-append, length-map, List·getD-map, List·getD-append}
+use lib.ListN.{length, length-append, length-map, List·getD-map, List·getD-append}
 use lib.Seq.{getD-append-add}
 use Rattle.operations.specs.declared.operation.Operation.{Operation}
 use Rattle.operations.specs.declared.operation.Operation.the-variants.{MacClass as MacOperation, AddAccumulators, Subtract, Negate, Shift, Lac, Add, Sac}
@@ -13,6 +14,7 @@ use Rattle.program.specs.Placement.{roleOf, roleAt, lastOf}
 use Rattle.program.specs.declared.placement.Role.{Role}
 use Rattle.program.specs.declared.placement.Role.the-variants.{Plain, Repeats, Loops as Looped}
 use Rattle.program.proofs.Placed.{role-is}
+use Rattle.machine.specs.Step.{operationAt}
 use Rattle.join.specs.Join.{movedOperation, joined}
 
 -- the role of a moved operation
@@ -61,19 +63,38 @@ joined-length p q =
     length-append p (map (movedOperation (length p)) q) ∙ ap (λ (n : ℕ). length p + n) (length-map q (movedOperation (length p)))
 
 module _ (p q : List Operation) where
-  pub first-operation : (i : ℕ) → i < length p → getD (joined p q) i EndEarly ≡ getD p i EndEarly
+  pub first-operation : (i : ℕ) → i < length p → operationAt (joined p q) i ≡ operationAt p i
   unfolding joined
   first-operation i l = List·getD-append p (map (movedOperation (length p)) q) EndEarly i l
 
-  pub second-operation : (i : ℕ) → getD (joined p q) (length p + i) EndEarly ≡ movedOperation (length p) (getD q i EndEarly)
+  pub second-operation : (i : ℕ) → operationAt (joined p q) (length p + i) ≡ movedOperation (length p) (operationAt q i)
   unfolding joined movedOperation
   second-operation i =
       getD-append-add p (map (movedOperation (length p)) q) i EndEarly ∙ List·getD-map (movedOperation (length p)) q i EndEarly
 
-  pub first-role : (i : ℕ) → i < length p → roleAt (joined p q) i ≡ roleAt p i
-  first-role i l = role-is (joined p q) i ∙ ap roleOf (first-operation i l) ∙ sym (role-is p i)
+-- ---- a program that stands in another from operation n on, moved
 
-  pub second-role : (i : ℕ) → roleAt (joined p q) (length p + i) ≡ movedRole (length p) (roleAt q i)
-  second-role i =
-      role-is (joined p q) (length p + i) ∙ ap roleOf (second-operation i) ∙ moved-role (length p) (getD q i EndEarly)
-      ∙ ap (movedRole (length p)) (sym (role-is q i))
+pub record PartOf (whole part : List Operation) (n : ℕ) : Type 0 where
+  pub fits : n + length part ≤ length whole
+  pub operations : (i : ℕ) → i < length part → operationAt whole (n + i) ≡ movedOperation n (operationAt part i)
+
+pub part-role : (whole part : List Operation) (n : ℕ) → PartOf whole part n → (i : ℕ) → i < length part
+    → roleAt whole (n + i) ≡ movedRole n (roleAt part i)
+part-role whole part n h i l =
+    role-is whole (n + i) ∙ ap roleOf (h .operations i l) ∙ moved-role n (operationAt part i) ∙ ap (movedRole n) (sym (role-is part i))
+
+-- moved by 0 an operation stays
+moved-by-none : (o : Operation) → movedOperation 0 o ≡ o
+moved-by-none = by-moved 0 (λ o o′. o′ ≡ o) (λ o e z. refl) (λ count last. ap (Do count) (zero-add last)) (λ r last. ap (DoRegister r) (zero-add last))
+
+-- the two parts of a joined program
+module _ (p q : List Operation) where
+  pub first-part : PartOf (joined p q) p 0
+  first-part =
+      record {
+        fits = omega (arith, joined-length p q);
+        operations = λ i l. ap (operationAt (joined p q)) (zero-add i) ∙ first-operation p q i l ∙ sym (moved-by-none (operationAt p i));
+      }
+
+  pub second-part : PartOf (joined p q) q (length p)
+  second-part = record { fits = omega (arith, joined-length p q); operations = λ i l. second-operation p q i }

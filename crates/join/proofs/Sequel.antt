@@ -1,31 +1,29 @@
 -- The joined program runs as its two parts one after the other. Assumes nothing.
-use Prim.Native.Nat.{ℕ, _-_, _≤_, _<_}
+use Prim.Native.Nat.{ℕ, zero, suc, _<_}
 use mathlib.Core.Bool.{true, false}
-use mathlib.Core.List.{List}
+use mathlib.Core.List.{List, [], _∷_}
 use mathlib.Core.Path.{_≡_, refl, sym, ap, _∙_}
-use native.Mathlib.Nat.{add-zero}
+use native.Mathlib.Nat.{add-zero, zero-add}
 use native.Mathlib.Omega.{arith}
-use borrow.Author.Tests.{eqb-true, eqb-false, ne-eqb}
+use borrow.Author.Tests.{eqb-true, ne-eqb}
 use lib.Dec.{eqb}
 use lib.ListN.{length}
 use Rattle.operations.specs.declared.operation.Operation.{Operation}
-use Rattle.program.specs.Placement.{lastOf}
 use Rattle.state.specs.State.{restartedState}
 use Rattle.state.specs.declared.settings.Settings.{Settings}
 use Rattle.state.specs.declared.state.State.{State}
-use Rattle.machine.specs.Loops.{innerStart}
 use Rattle.machine.specs.Step.{Step, stepped}
-use Rattle.machine.proofs.Seen.{stepped-seen}
 use Rattle.machine.proofs.Stands.{restart-stands}
 use Rattle.machine.proofs.Ends.{done-loops, done-repeat}
-use Rattle.engine.specs.Run.{isDone, Result}
+use Rattle.engine.specs.Run.{isDone, Turn, Result}
+use Rattle.engine.specs.Run.Turn.{over, last, next}
 use Rattle.engine.specs.Engine.{Engine, turnOf, engineTurn, engineDone, engineFrom, engineRun}
-use Rattle.engine.proofs.Fits.{Fit, turn-fits}
+use Rattle.engine.proofs.Fits.{Fit, at-operation, turn-fits}
 use Rattle.engine.proofs.Runs.{Keeps, turnTo, run-maps, Avoids, thenOn, run-then}
 use Rattle.engine.proofs.Split.{later, engine-ends, engine-later}
 use Rattle.join.specs.Join.{joined}
-use Rattle.join.specs.Both.{movedEngine, movedResult}
-use Rattle.join.proofs.Moved.{joined-length, first-operation, first-role}
+use Rattle.join.specs.Both.{movedStarts, movedEngine, movedResult}
+use Rattle.join.proofs.Moved.{joined-length, PartOf, first-part, second-part}
 use Rattle.join.proofs.Whole.{Accepted}
 use Rattle.join.proofs.Steps.{moved-test, eqb-moved, movedStep, nested-tied, stepped-moved}
 
@@ -33,49 +31,67 @@ use Rattle.join.proofs.Steps.{moved-test, eqb-moved, movedStep, nested-
 abbrev pub restartedEngine : Engine → Engine
 restartedEngine x = record { state = restartedState (x .state); memory = x .memory }
 
+-- ---- a turn at an operation of a program that stands in another
+
+turn-moved : (n : ℕ) (r : Step) → turnOf (movedStep n r) ≡ turnTo (movedEngine n) (turnOf r)
+turn-moved n r =
+    moved-test (turnTo (movedEngine n)) (r .counted) (λ e. moved-test (turnTo (movedEngine n)) (eqb (r .trap) 0) (λ f. refl) (λ f. refl)) (λ e. refl)
+
+module _ (whole part : List Operation) (n : ℕ) (is : PartOf whole part n) (settings : Settings) (words : ℕ) where
+  -- its turn there is its own, moved
+  part-turn : (x : Engine) → engineDone part x ≡ false → Fit part words x
+      → engineTurn whole settings (movedEngine n x) ≡ turnTo (movedEngine n) (engineTurn part settings x)
+  unfolding engineTurn
+  part-turn x more h =
+      let c = x .state .core in
+      ap turnOf
+      (stepped-moved whole part n settings (x .state) (x .memory) (is .operations (c .pc) (at-operation part words x more h))
+      (nested-tied whole part n is (c .pc) (c .loops) (h .stands .at) (h .stands .nested)))
+      ∙ turn-moved n (stepped part settings (x .state) (x .memory))
+
+-- ---- moved by 0
+
+starts-by-none : (d : ℕ) (l : List ℕ) → movedStarts 0 d l ≡ l
+starts-by-none zero l = refl
+starts-by-none (suc d) [] = refl
+starts-by-none (suc d) (x ∷ l) = rw (zero-add x, starts-by-none d l)
+
+engine-by-none : (x : Engine) → movedEngine 0 x ≡ x
+engine-by-none x =
+    let c = x .state .core in
+    rw (zero-add (c .pc), starts-by-none (c .loops .depth) (c .loops .starts))
+
+turn-by-none : (u : Turn Engine) → turnTo (movedEngine 0) u ≡ u
+turn-by-none (over e) = refl
+turn-by-none (last e x) = ap (last e) (engine-by-none x)
+turn-by-none (next x) = ap next (engine-by-none x)
+
+-- ---- the two parts of a joined program
+
 module _ (p q : List Operation) (ok : Accepted p) (ok′ : Accepted q) (settings : Settings) (words : ℕ) where
   abbrev n : ℕ
   n = length p
 
-  -- ---- at an operation of the first
-
-  first-turn : (x : Engine) → x .state .core .pc < n → Fit p words x → engineTurn (joined p q) settings x ≡ engineTurn p settings x
-  unfolding engineTurn
-  first-turn x below h =
-      let l = x .state .core .loops in
-      ap turnOf
-      (stepped-seen (joined p q) p settings (x .state) (x .memory) (first-operation p q (x .state .core .pc) below)
-      (λ some.
-      let start : innerStart l < x .state .core .pc = h .stands .nested .begun (l .depth - 1) (omega arith) in
-      ap lastOf (first-role p q (innerStart l) (omega arith))))
-
+  -- at an operation of the first
   first-same : (k : ℕ) (x : Engine) → engineDone p x ≡ false → Fit p words x
       → (engineDone (joined p q) x ≡ false) × (engineTurn (joined p q) settings x ≡ engineTurn p settings x)
       × Avoids isDone (engineTurn p settings x) × Keeps (Fit p words) (Fit p words) (engineTurn p settings x)
   first-same k x more h =
-      let c = x .state .core in
-      let most : c .pc ≤ n = h .stands .at in
-      let apart : c .pc ≡ n → ⊥ = eqb-false (c .pc) n more in
-      let below : c .pc < n = omega arith in (
-        ne-eqb (c .pc) (length (joined p q)) (λ e. omega (arith, e, joined-length p q)),
-        first-turn x below h,
+      let below : x .state .core .pc < n = at-operation p words x more h in (
+        ne-eqb (x .state .core .pc) (length (joined p q)) (λ e. omega (arith, e, joined-length p q)),
+        ap (engineTurn (joined p q) settings) (sym (engine-by-none x))
+            ∙ part-turn (joined p q) p 0 (first-part p q) settings words x more h
+            ∙ turn-by-none (engineTurn p settings x),
         engine-ends isDone (λ trap. refl) p settings x,
         turn-fits p (ok .placed) (ok .listed) settings words x more h,
       )
 
-  -- ---- at an operation of the second
-
-  turn-moved : (r : Step) → turnOf (movedStep n r) ≡ turnTo (movedEngine n) (turnOf r)
-  turn-moved r =
-      moved-test (turnTo (movedEngine n)) (r .counted) (λ e. moved-test (turnTo (movedEngine n)) (eqb (r .trap) 0) (λ f. refl) (λ f. refl)) (λ e. refl)
-
+  -- at an operation of the second
   second-moved : (k : ℕ) (x : Engine) → engineDone q x ≡ false → Fit q words x
       → (engineTurn (joined p q) settings (movedEngine n x) ≡ turnTo (movedEngine n) (engineTurn q settings x))
       × Keeps (Fit q words) (Fit q words) (engineTurn q settings x)
-  unfolding engineTurn
   second-moved k x more h = (
-    ap turnOf (stepped-moved p q settings (x .state) (x .memory) (nested-tied p q (x .state .core .pc) (x .state .core .loops) (h .stands .nested)))
-        ∙ turn-moved (stepped q settings (x .state) (x .memory)),
+    part-turn (joined p q) q n (second-part p q) settings words x more h,
     turn-fits q (ok′ .placed) (ok′ .listed) settings words x more h,
   )
 

@@ -1,4 +1,4 @@
--- A step of the joined program at an operation of the second is the second's step, moved. Assumes nothing.
+-- A step at an operation of a program that stands in another is that program's step, moved. Assumes nothing.
 use Prim.Native.Nat.{ℕ, zero, suc, _+_, _-_, _≤_, _<_}
 use mathlib.Core.Bool.{Bool, true, false, cond, _&&_}
 use mathlib.Core.List.{List, [], _∷_}
@@ -9,7 +9,7 @@ use native.Mathlib.Omega.{arith}
 use borrow.Author.Tests.{ltb-true, eqb-true, eqb-false, eq-eqb, ne-eqb}
 use lib.Dec.{eqb, ltb}
 use lib.ListN.{length, getD, set}
-use Rattle.integers.proofs.Whole.{by-test, same-test, both as and-both}
+use Rattle.integers.proofs.Whole.{by-test, same-test, both}
 use Rattle.accumulator.specs.Mode.{modeOf}
 use Rattle.accumulator.specs.declared.mode.Mode.{Mode}
 use Rattle.accumulator.specs.declared.mode.Target.the-variants.{A, B}
@@ -35,9 +35,9 @@ use Rattle.machine.specs.declared.control.Control.the-variants.{DoRegister as L
 use Rattle.machine.specs.declared.control.Control.the-variants.{ClearSaturation as Clearing}
 use Rattle.machine.proofs.Works.{settled-loops}
 use Rattle.machine.proofs.Nested.{Nested}
-use Rattle.join.specs.Join.{movedOperation, joined}
+use Rattle.join.specs.Join.{movedOperation}
 use Rattle.join.specs.Both.{movedStarts, movedLoops, movedCore, movedState}
-use Rattle.join.proofs.Moved.{by-moved, moved-last, second-operation, second-role}
+use Rattle.join.proofs.Moved.{by-moved, moved-last, PartOf, part-role}
 
 -- what is chosen by a test and moved is what is chosen of the moved ones
 pub moved-test : {X Y : Type 0} (f : X → Y) (t : Bool) {x x′ : X} {y y′ : Y} → (t ≡ true → y ≡ f x) → (t ≡ false → y′ ≡ f x′)
@@ -103,36 +103,31 @@ starts-inner n (suc d) l some long =
 abbrev pub movedStep : ℕ → Step → Step
 movedStep n r = record { state = movedState n (r .state); memory = r .memory; trap = r .trap; counted = r .counted }
 
-module _ (p q : List Operation) where
-  abbrev n : ℕ
-  n = length p
-
-  abbrev both : List Operation
-  both = joined p q
-
+module _ (whole part : List Operation) (n : ℕ) where
   -- the innermost loop is the moved one: DO's number, and its last
   pub record Tied (l : Loops) : Type 0 where
     pub start : innerStart (movedLoops n l) ≡ n + innerStart l
-    pub last : lastOf (roleAt both (n + innerStart l)) ≡ n + lastOf (roleAt q (innerStart l))
+    pub last : lastOf (roleAt whole (n + innerStart l)) ≡ n + lastOf (roleAt part (innerStart l))
 
   -- where there is one
   abbrev Ties : Loops → Type 0
   Ties l = 0 < l .depth → Tied l
 
-  pub nested-tied : (pc : ℕ) (l : Loops) → Nested q pc l → Ties l
-  nested-tied pc l h some =
+  pub nested-tied : PartOf whole part n → (pc : ℕ) (l : Loops) → pc ≤ length part → Nested part pc l → Ties l
+  nested-tied is pc l at h some =
       let inner = l .depth - 1 in
       let last : inner < l .depth = omega arith in
       let few : l .depth ≤ 4 = h .few in
       let long : length (l .starts) ≡ 4 = h .four .0 in
+      let begun : innerStart l < pc = h .begun inner last in
       record {
         start = starts-inner n (l .depth) (l .starts) some (omega arith);
         last =
-            ap lastOf (second-role p q (innerStart l))
-            ∙ moved-last n (roleAt q (innerStart l)) (omega (arith, h .begun inner last, h .within inner last));
+            ap lastOf (part-role whole part n is (innerStart l) (omega arith))
+            ∙ moved-last n (roleAt part (innerStart l)) (omega (arith, h .within inner last));
       }
 
-  inner-moved : (c : Core) → Tied (c .loops) → innerLast both (movedCore n c) ≡ n + innerLast q c
+  inner-moved : (c : Core) → Tied (c .loops) → innerLast whole (movedCore n c) ≡ n + innerLast part c
   inner-moved c h = rw (h .start) (h .last)
 
   fallen-moved : (c : Core) → 0 < c .loops .depth → Tied (c .loops) → fallen (movedCore n c) ≡ movedCore n (fallen c)
@@ -142,35 +137,35 @@ module _ (p q : List Operation) where
       (λ e. rw (starts-popped n (c .loops .depth) (c .loops .starts) some, add-assoc n (c .pc) 1))
 
   last-moved : (c : Core) → Ties (c .loops)
-      → (ltb 0 (c .loops .depth) && eqb (n + c .pc) (innerLast both (movedCore n c))) ≡ (ltb 0 (c .loops .depth) && eqb (c .pc) (innerLast q c))
+      → (ltb 0 (c .loops .depth) && eqb (n + c .pc) (innerLast whole (movedCore n c))) ≡ (ltb 0 (c .loops .depth) && eqb (c .pc) (innerLast part c))
   last-moved c h = go (ltb 0 (c .loops .depth)) refl
     where
-      go : (t : Bool) → ltb 0 (c .loops .depth) ≡ t → (t && eqb (n + c .pc) (innerLast both (movedCore n c))) ≡ (t && eqb (c .pc) (innerLast q c))
-      go true e = rw (inner-moved c (h (ltb-true 0 (c .loops .depth) e))) (eqb-moved n (c .pc) (innerLast q c))
+      go : (t : Bool) → ltb 0 (c .loops .depth) ≡ t → (t && eqb (n + c .pc) (innerLast whole (movedCore n c))) ≡ (t && eqb (c .pc) (innerLast part c))
+      go true e = rw (inner-moved c (h (ltb-true 0 (c .loops .depth) e))) (eqb-moved n (c .pc) (innerLast part c))
       go false e = refl
 
-  advanced-moved : (c : Core) → Ties (c .loops) → advanced both (movedCore n c) ≡ movedCore n (advanced q c)
+  advanced-moved : (c : Core) → Ties (c .loops) → advanced whole (movedCore n c) ≡ movedCore n (advanced part c)
   unfolding advanced
   advanced-moved c h =
       moved-test (movedCore n) (ltb 1 (c .repeat)) (λ e. refl)
       (λ e.
       rw (last-moved c h)
-      (moved-test (movedCore n) (ltb 0 (c .loops .depth) && eqb (c .pc) (innerLast q c))
+      (moved-test (movedCore n) (ltb 0 (c .loops .depth) && eqb (c .pc) (innerLast part c))
       (λ f.
-      let some = ltb-true 0 (c .loops .depth) (and-both (ltb 0 (c .loops .depth)) (eqb (c .pc) (innerLast q c)) f .0) in
+      let some = ltb-true 0 (c .loops .depth) (both (ltb 0 (c .loops .depth)) (eqb (c .pc) (innerLast part c)) f .0) in
       fallen-moved c some (h some))
       (λ f. rw (add-assoc n (c .pc) 1))))
 
-  ended-moved : (c : Core) → Ties (c .loops) → (endedEarly both (movedCore n c) ≡ movedCore n (endedEarly q c)) × Ties (endedEarly q c .loops)
+  ended-moved : (c : Core) → Ties (c .loops) → (endedEarly whole (movedCore n c) ≡ movedCore n (endedEarly part c)) × Ties (endedEarly part c .loops)
   unfolding endedEarly withPasses
   ended-moved c h = (
     moved-test (movedCore n) (ltb 0 (c .loops .depth))
         (λ e.
         rw (
           inner-moved c (h (ltb-true 0 (c .loops .depth) e)),
-          eqb-moved n (c .pc) (innerLast q c),
+          eqb-moved n (c .pc) (innerLast part c),
           add-assoc n (c .pc) 1,
-          eqb-moved n (c .pc + 1) (innerLast q c),
+          eqb-moved n (c .pc + 1) (innerLast part c),
         ))
         (λ e. refl),
     by-test (λ (d : Core). Ties (d .loops)) (ltb 0 (c .loops .depth))
@@ -179,7 +174,7 @@ module _ (p q : List Operation) where
         record { start = t .start; last = t .last }) (λ e. h),
   )
 
-  controlled-moved : (k : Control) (c : Core) → Ties (c .loops) → controlled both k (movedCore n c) ≡ movedCore n (controlled q k c)
+  controlled-moved : (k : Control) (c : Core) → Ties (c .loops) → controlled whole k (movedCore n c) ≡ movedCore n (controlled part k c)
   unfolding controlled repeated entered pushed
   controlled-moved Onward c h = advanced-moved c h
   controlled-moved (Repeating count) c h = rw (add-assoc n (c .pc) 1)
@@ -188,7 +183,7 @@ module _ (p q : List Operation) where
   controlled-moved (LoopingRegister r) c h = rw (starts-pushed n (c .loops .depth) (c .loops .starts) (c .pc), add-one (c .loops .depth), add-assoc n (c .pc) 1)
   controlled-moved EndingEarly c h =
       let (e, kept) = ended-moved c h in
-      ap (advanced both) e ∙ advanced-moved (endedEarly q c) kept
+      ap (advanced whole) e ∙ advanced-moved (endedEarly part c) kept
   controlled-moved (SettingMode word) c h = advanced-moved (withMode c word) h
   controlled-moved Clearing c h = advanced-moved c h
 
@@ -200,7 +195,7 @@ module _ (p q : List Operation) where
   settled-moved t m (Result B r) s = refl
 
   completed-moved : (settings : Settings) (m : Mode) (o : Operation) (work : Work) (s : State) (memory : List ℕ) → Ties (s .core .loops)
-      → completed both settings m (movedOperation n o) work (movedState n s) memory ≡ movedStep n (completed q settings m o work s memory)
+      → completed whole settings m (movedOperation n o) work (movedState n s) memory ≡ movedStep n (completed part settings m o work s memory)
   unfolding completed stateControlled
   completed-moved settings m o work s memory h =
       let t = settings .traps in
@@ -212,12 +207,13 @@ module _ (p q : List Operation) where
         controlled-moved (controlOf o) (settleOf t m e after .state .core) (rw (settled-loops t m e after) h),
       )
 
-  pub stepped-moved : (settings : Settings) (s : State) (memory : List ℕ) → Ties (s .core .loops)
-      → stepped both settings (movedState n s) memory ≡ movedStep n (stepped q settings s memory)
+  pub stepped-moved : (settings : Settings) (s : State) (memory : List ℕ)
+      → operationAt whole (n + s .core .pc) ≡ movedOperation n (operationAt part (s .core .pc)) → Ties (s .core .loops)
+      → stepped whole settings (movedState n s) memory ≡ movedStep n (stepped part settings s memory)
   unfolding stepped
-  stepped-moved settings s memory h =
+  stepped-moved settings s memory is h =
       let m = modeOf (s .core .mode) in
-      let o = operationAt q (s .core .pc) in
+      let o = operationAt part (s .core .pc) in
       let work = workOf settings m o (s .core) memory in
-      rw (second-operation p q (s .core .pc), moved-work n settings m o (s .core) memory)
+      rw (is, moved-work n settings m o (s .core) memory)
       (moved-test (movedStep n) (eqb (work .effect .trap) 0) (λ e. completed-moved settings m o work s memory h) (λ e. refl))

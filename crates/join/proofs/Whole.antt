@@ -2,7 +2,7 @@
 use Prim.Native.Nat.{ℕ, _+_, _-_, _≤_, _<_}
 use mathlib.Core.Bool.{Bool, true, false, not}
 use mathlib.Core.List.{List}
-use mathlib.Core.Path.{_≡_, refl, subst, _∙_}
+use mathlib.Core.Path.{_≡_, refl, subst}
 use native.Mathlib.Nat.{add-assoc, zero-add}
 use native.Mathlib.Omega.{arith}
 use borrow.Author.Tests.{ltb-true, ltb-false, lt-ltb, le-leb}
@@ -17,7 +17,7 @@ use Rattle.program.specs.declared.placement.Role.the-variants.{Plain, Repeats, 
 use Rattle.program.proofs.Placed.{role-is, all-of, loop-placed, last-below, repeat-placed}
 use Rattle.machine.specs.Step.{operationAt}
 use Rattle.join.specs.Join.{movedOperation, joined}
-use Rattle.join.proofs.Moved.{by-moved, movedRole, joined-length, first-operation, second-operation, first-role, second-role}
+use Rattle.join.proofs.Moved.{by-moved, movedRole, joined-length, first-operation, second-operation, PartOf, part-role, first-part, second-part}
 
 -- a program whose count, fields and placement are accepted
 pub record Accepted (p : List Operation) : Type 0 where
@@ -27,11 +27,6 @@ pub record Accepted (p : List Operation) : Type 0 where
   pub placed : isPlaced p ≡ true
 
 -- ---- roles, moved
-
-moved-none : (r : Role) → r ≡ movedRole 0 r
-moved-none Plain = refl
-moved-none Repeats = refl
-moved-none (Looped last) = rw (zero-add last)
 
 moved-plain : (n : ℕ) (r : Role) → isPlain r ≡ true → isPlain (movedRole n r) ≡ true
 moved-plain n Plain h = h
@@ -48,27 +43,31 @@ moved-ends n e Plain l = refl
 moved-ends n e Repeats l = refl
 moved-ends n e (Looped last) l = lt-ltb (n + last) (n + e) (omega arith)
 
--- ---- a placed program that stands in another from operation n on
+-- ---- a placed program that stands in another
 
-module _ (p r : List Operation) (n : ℕ) (placed : isPlaced r ≡ true) (fits : n + length r ≤ length p)
-    (roles : (i : ℕ) → i < length r → roleAt p (n + i) ≡ movedRole n (roleAt r i)) where
+module _ (p r : List Operation) (n : ℕ) (placed : isPlaced r ≡ true) (h : PartOf p r n) where
+  roles : (i : ℕ) → i < length r → roleAt p (n + i) ≡ movedRole n (roleAt r i)
+  roles = part-role p r n h
+
   part-loop : (i e : ℕ) → i < length r → roleAt r i ≡ Looped e → isPlacedAs p (n + i) (Looped (n + e)) ≡ true
   part-loop i e l is =
-      let h = loop-placed r placed i e l is in
+      let fits : n + length r ≤ length p = h .fits in
+      let loop = loop-placed r placed i e l is in
       let inner : (j : ℕ) → j < n + e - (n + i) → isInner p (n + i) (n + e) j ≡ true =
       λ j k.
       let at : n + i + 1 + j ≡ n + (i + 1 + j) = omega arith in
-      rw (at, roles (i + 1 + j) (omega (arith, h .ends))) (moved-ends n e (roleAt r (i + 1 + j)) (h .inner (i + 1 + j) (omega arith) (omega arith))) in
+      rw (at, roles (i + 1 + j) (omega (arith, loop .ends))) (moved-ends n e (roleAt r (i + 1 + j)) (loop .inner (i + 1 + j) (omega arith) (omega arith))) in
       rw (
-        le-leb (n + i + 2) (n + e) (omega (arith, h .room)),
-        lt-ltb (n + e) (length p) (omega (arith, h .ends)),
-        roles e (h .ends),
-        moved-repeat n (roleAt r e) (h .last),
+        le-leb (n + i + 2) (n + e) (omega (arith, loop .room)),
+        lt-ltb (n + e) (length p) (omega (arith, loop .ends)),
+        roles e (loop .ends),
+        moved-repeat n (roleAt r e) (loop .last),
         all-of (isInner p (n + i) (n + e)) (n + e - (n + i)) inner,
       )
 
   part-repeat : (i : ℕ) → i < length r → roleAt r i ≡ Repeats → isPlacedAs p (n + i) Repeats ≡ true
   part-repeat i l is =
+      let fits : n + length r ≤ length p = h .fits in
       let (more, plain) = repeat-placed r placed i l is in
       rw (lt-ltb (n + i + 1) (length p) (omega arith), add-assoc n i 1, roles (i + 1) more) (moved-plain n (roleAt r (i + 1)) plain)
 
@@ -120,9 +119,6 @@ module _ (p q : List Operation) where
           placed =
               all-of (isPlacedAt (joined p q)) (length (joined p q))
               (each (λ (i : ℕ). isPlacedAt (joined p q) i ≡ true)
-              (λ i l.
-              rw (zero-add i) at
-              (part-placed (joined p q) p 0 (ok .placed) (omega (arith, joined-length p q))
-              (λ j k. rw (zero-add j) (first-role p q j k ∙ moved-none (roleAt p j))) i l))
-              (λ i l. part-placed (joined p q) q (length p) (ok′ .placed) (omega (arith, joined-length p q)) (λ j k. second-role p q j) i l));
+              (λ i l. rw (zero-add i) at (part-placed (joined p q) p 0 (ok .placed) (first-part p q) i l))
+              (λ i l. part-placed (joined p q) q (length p) (ok′ .placed) (second-part p q) i l));
         }

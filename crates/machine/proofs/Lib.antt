@@ -4,7 +4,6 @@ pub mod CallExamples
 pub mod StepExamples
 pub mod Works
 pub mod Order
-pub mod Seen
 pub mod Words
 pub mod Places
 pub mod Nested
