@@ -1,10 +1,15 @@
-// Cases from standard input, each answered by a line on standard output: a run, a load, a write or a join, in the short form or the long one.
+// Cases from standard input, each answered by a line on standard output: a run, a load, a write, a join or boards combined, in the short form or
+// the long one.
+use combine::board::Board;
+use combine::call::Combined;
+use combine::call::combine;
 use engine::call::run;
 use join::call::join;
 use libc::STDIN_FILENO;
 use program::answer::Answer;
 use program::file::load;
 use program::write::write;
+use stream::boards::boards;
 use stream::header;
 use stream::line;
 use stream::memory::fill;
@@ -12,6 +17,7 @@ use stream::number::print_text;
 ghost use mathlib.Core.Path.{_≡_};
 ghost use Prim.Native.Nat.{_*_, _≤_};
 ghost use lib.ListN.{length};
+ghost use Rattle.combine.specs.Call.{Combines};
 ghost use Rattle.join.specs.Call.{Joins};
 
 // What a case asks for stands in byte 111 of its header. From here on the case has the long form.
@@ -20,6 +26,8 @@ const LONG: u8 = 16;
 const RUN: u8 = 16;
 // A join.
 const JOIN: u8 = 17;
+// Boards combined.
+const COMBINE: u8 = 22;
 
 // A run, and its line, which has more fields in the long form.
 fn answer_run(head: [u8; 320], file: &[u8], bytes: &[u8], memory: &mut [u16])
@@ -71,6 +79,25 @@ fn answer_join(first: &[u8], second: &[u8], out: &mut [u8]) {
     line::print_filled(b"joined", answer, out);
 }
 
+// Boards combined, by the promise of the call.
+fn combined(boards: [Board; 8], count: usize, mode: u16) -> Combined
+    ensures { λ r. ⌜ Combines boards count mode r ⌝ }
+{
+    combine(boards, count, mode)
+}
+
+// Boards combined, and their line. The budget is their number, and the file has 9 bytes of each; where it has another length the line is `short`, and
+// the stream goes on.
+fn answer_combine(head: [u8; 320], file: &[u8]) {
+    let count = header::budget(head) as usize;
+    if file.len() != 9 * count {
+        print_text(b"short\n");
+        return;
+    }
+    let answer = combined(boards(file, count), count, header::mode_word(head));
+    line::print_combined(answer);
+}
+
 // What a case asks for is a load (1) or a write (2).
 fn is_filled(what: u8) -> bool {
     (what == 1) | (what == 2)
@@ -111,6 +138,8 @@ fn answer(
         answer_run(head, file, bytes, memory);
     } else if what == JOIN {
         answer_join(file, second, out);
+    } else if what == COMBINE {
+        answer_combine(head, file);
     } else {
         print_text(b"unknown\n");
     }

@@ -3,6 +3,7 @@ pub mod Names
 pub mod NameExamples
 pub mod RunExamples
 pub mod OverflowExamples
+pub mod StepExamples
 pub mod Table
 pub mod Holds
 pub mod Runs
@@ -15,5 +16,6 @@ pub mod SameSteps
 pub mod Overflow
 pub mod Onward
 pub mod Fits
+pub mod Steps
 pub mod Along
 pub mod Calls

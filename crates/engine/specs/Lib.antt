@@ -8,4 +8,5 @@ pub mod Holds
 pub mod Exact
 pub mod Wraps
 pub mod Call
+pub mod Steps
 pub mod Table

@@ -127,10 +127,10 @@ near r first e = go (eqb r first) refl e
     go false d e = omega (arith, eqb-true r (first + 1) e)
 
 -- two nibbles come apart
-low-nibble : (low high : ℕ) → low < 16 → nibbles low high % 16 ≡ low
+pub low-nibble : (low high : ℕ) → low < 16 → nibbles low high % 16 ≡ low
 low-nibble low high h = omega arith
 
-high-nibble : (low high : ℕ) → high < 16 → nibbles low high / 16 ≡ high
+pub high-nibble : (low high : ℕ) → high < 16 → nibbles low high / 16 ≡ high
 high-nibble low high h = omega arith
 
 -- a pointer's byte is neither 0 nor the byte of the sum
@@ -176,6 +176,18 @@ destinations-small kind x y xto yto =
     let t = both (isDestination x xto) (isDestination y yto) (both (isDestination x xto && isDestination y yto) (not (reads x && reads y && eqb xto yto)) e .0) in
     (destination-small x xto (t .0), destination-small y yto (t .1)))
 
+-- m and n are nibbles
+pub factors-nibbles : (k : MacClass) → isListedMac k ≡ true → (k .m < 16) × (k .n < 16)
+unfolding isListedMac
+factors-nibbles k e =
+    let kind : ℕ = actionByte (k .action) in
+    let factors : Bool = areFactors kind (k .m) (k .n) in
+    let x : Bool = isPrefetch 8 (k .x) in
+    let y : Bool = isPrefetch 10 (k .y) in
+    let destinations : Bool = areDestinations kind (k .x) (k .y) (k .xto) (k .yto) in
+    let t = both (factors && x && y) destinations (both (factors && x && y && destinations) (isWriteBack kind (k .back)) e .0) in
+    factors-small kind (k .m) (k .n) (both factors x (both (factors && x) y (t .0) .0) .0)
+
 mac-again : (k : MacClass) → isListedMac k ≡ true → operationOf (macBytes k) ≡ MacOperation k
 unfolding operationOf isListedMac
 mac-again k e =
@@ -186,8 +198,7 @@ mac-again k e =
     let destinations : Bool = areDestinations kind (k .x) (k .y) (k .xto) (k .yto) in
     let t = both (factors && x && y) destinations (both (factors && x && y && destinations) (isWriteBack kind (k .back)) e .0) in
     let u = both (factors && x) y (t .0) in
-    let v = both factors x (u .0) in
-    let nibble = factors-small kind (k .m) (k .n) (v .0) in
+    let nibble = factors-nibbles k e in
     let to = destinations-small kind (k .x) (k .y) (k .xto) (k .yto) (t .1) in
     rw (
       action-kind (k .action),
@@ -195,7 +206,7 @@ mac-again k e =
       target-again (k .target),
       low-nibble (k .m) (k .n) (nibble .0),
       high-nibble (k .m) (k .n) (nibble .1),
-      prefetch-again 8 12 (omega arith) (omega arith) (omega arith) (k .x) (v .1),
+      prefetch-again 8 12 (omega arith) (omega arith) (omega arith) (k .x) (both factors x (u .0) .1),
       prefetch-again 10 13 (omega arith) (omega arith) (omega arith) (k .y) (u .1),
       low-nibble (k .xto) (k .yto) (to .0),
       high-nibble (k .xto) (k .yto) (to .1),

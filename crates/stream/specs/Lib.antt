@@ -1,3 +1,4 @@
--- The case stream: a case's header, and the words of memory after it.
+-- The case stream: a case's header, and after it the words of memory or the boards.
 pub mod Header
 pub mod Memory
+pub mod Boards

@@ -55,7 +55,7 @@ fn signed(high: u32) -> i64
 }
 
 // 64 bits of two halves, the high one signed.
-fn number(low: u32, high: u32) -> i64
+pub fn number(low: u32, high: u32) -> i64
     ensures { λ r. ⌜ r ≡ numberOf low high ⌝ }
 {
     let top = signed(high) * 0x1_0000_0000;
@@ -97,6 +97,13 @@ pub fn budget(head: [u8; 320]) -> u32
     ensures { λ r. ⌜ r ≡ budgetIn head ⌝ }
 {
     long_at(head, 8)
+}
+
+// The mode word.
+pub fn mode_word(head: [u8; 320]) -> u16
+    ensures { λ r. ⌜ r ≡ wordAt head 108 ⌝ }
+{
+    word_at(head, 108)
 }
 
 // The bytes of the second file.

@@ -1,4 +1,5 @@
-// The case stream that the simulator writes: a case's header, its words of memory, and the line that is printed for it.
+// The case stream that the simulator writes: a case's header, its words of memory, its boards, and the line that is printed for it.
+pub mod boards;
 pub mod header;
 pub mod line;
 pub mod memory;

@@ -3,6 +3,8 @@ use crate::number::print_number;
 use crate::number::print_signed;
 use crate::number::print_text;
 use crate::number::print_word;
+use accumulator::limit::Accumulator;
+use combine::call::Combined;
 use engine::ending::Ending;
 use engine::outcome::Outcome;
 use program::answer::Answer;
@@ -230,5 +232,27 @@ pub fn print_filled(verb: &[u8], answer: Answer, slice: &[u8]) {
     }
     print_field(answer.bytes() as u64);
     print_bytes_check(slice);
+    print_text(b"\n");
+}
+
+// A space and a flag, 0 or 1.
+fn print_flag_field(set: bool) {
+    print_field(set as u64);
+}
+
+// The fields of a combined sum: A, OA, SA.
+fn print_sum(sum: Accumulator) {
+    print_text(b"combined");
+    print_signed_field(sum.value);
+    print_flag_field(sum.overflow);
+    print_flag_field(sum.saturation);
+}
+
+// The line of combined boards: the sum or the refusal.
+pub fn print_combined(answer: Combined) {
+    match answer {
+        Combined::Sum(sum) => print_sum(sum),
+        Combined::Refused(n) => print_ending(Ending::Refused(n)),
+    }
     print_text(b"\n");
 }

@@ -61,7 +61,8 @@ pub fn long_at(bytes: &[u8], at: usize) -> u32 {
     u32::from(word_at(bytes, at)) | u32::from(word_at(bytes, at + 2)) << 16
 }
 
-fn number_at(bytes: &[u8], at: usize) -> i64 {
+/// Eight bytes, low byte first, two's complement.
+pub fn number_at(bytes: &[u8], at: usize) -> i64 {
     let bits = u64::from(long_at(bytes, at)) | u64::from(long_at(bytes, at + 4)) << 32;
     bits as i64
 }

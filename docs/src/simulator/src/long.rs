@@ -7,6 +7,7 @@ use crate::cases::{
     check, header_of, lent_line, long_at, memory_bytes, run_line, settings_of, state_of,
     take_whole, words_of, Case, Next, NoCase, What, HEADER, MOST_BYTES, MOST_WORDS,
 };
+use crate::combine_form::combine_line;
 use crate::engine::Outcome;
 use crate::join::join;
 
@@ -14,6 +15,7 @@ use crate::join::join;
 pub const FIRST_LONG: u8 = 16;
 pub const LONG_HEADER: usize = 320;
 const JOIN: u8 = 17;
+const COMBINE: u8 = 22;
 
 /// Registers of all five sets, W0..W13 each.
 const ALL_REGISTERS: usize = 70;
@@ -23,15 +25,17 @@ const TASKS: usize = 8;
 pub enum Call {
     Run,
     Join,
+    Combine,
     /// A call that is not here, by its `what`.
     Unknown(u8),
 }
 
 impl Call {
-    fn of(what: u8) -> Call {
+    pub fn of(what: u8) -> Call {
         match what {
             FIRST_LONG => Call::Run,
             JOIN => Call::Join,
+            COMBINE => Call::Combine,
             other => Call::Unknown(other),
         }
     }
@@ -40,6 +44,7 @@ impl Call {
         match self {
             Call::Run => FIRST_LONG,
             Call::Join => JOIN,
+            Call::Combine => COMBINE,
             Call::Unknown(what) => what,
         }
     }
@@ -103,6 +108,7 @@ pub fn long_line(case: &Long) -> String {
         Call::Join => lent_line("joined", case.room, |out| {
             join(&case.start.file, &case.second, out)
         }),
+        Call::Combine => combine_line(&case.start),
         Call::Unknown(_) => "unknown".to_string(),
     }
 }

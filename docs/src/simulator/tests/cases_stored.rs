@@ -1,5 +1,5 @@
-//! The stream of runs, loads, writes and joins stored in crates/cases: what its parts
-//! hold, and the lines for it.
+//! The stream of runs, loads, writes, joins and combined boards stored in crates/cases:
+//! what its parts hold, and the lines for it.
 
 mod common;
 use common::*;
@@ -9,10 +9,12 @@ use simulator::cases::{check, Case, What};
 use simulator::encode::encode;
 use simulator::file::{check_file, BLOCK, MOST_BLOCKS};
 use simulator::form::{forms_of, print_lines, Form};
-use simulator::generate::coverage::{coverage, walk};
+use simulator::generate::coverage::coverage;
 use simulator::generate::forms::forms;
 use simulator::generate::runs::{parts, stream};
+use simulator::long::Call;
 use simulator::state::loops_around;
+use simulator::walk::walk;
 use simulator::{Ending, Outcome};
 
 // ---- the files
@@ -32,15 +34,24 @@ fn the_stored_lines_are_what_is_printed() {
     assert!(stored_case_files("stdout") == printed);
 }
 
+/// The last case breaks off; before it five of `combine` have a file of another length.
 #[test]
-fn the_last_line_alone_is_short() {
+fn the_last_line_is_short_and_five_others_are() {
     let stored = String::from_utf8(stored_case_files("stdout")).unwrap();
     let lines: Vec<&str> = stored.lines().collect();
     let (last, others) = lines.split_last().expect("lines");
     assert_eq!(*last, "short");
-    assert!(!others.contains(&"short") && !others.contains(&"toolarge"));
-    assert_eq!(others.len(), whole_cases().len());
-    assert!(others.len() >= 2_400);
+    let whole = whole_cases();
+    assert_eq!(others.len(), whole.len());
+    assert!(others.len() >= 2_400 && !others.contains(&"toolarge"));
+    let cases = whole.iter().zip(others);
+    let short: Vec<&Form> = cases
+        .filter(|(_, line)| **line == "short")
+        .map(|(form, _)| form)
+        .collect();
+    assert_eq!(short.len(), 5);
+    let is_combine = |form: &Form| matches!(form, Form::Long(long) if long.call == Call::Combine);
+    assert!(short.into_iter().all(is_combine));
 }
 
 #[test]
@@ -64,6 +75,8 @@ fn the_parts_have_these_lengths() {
         ("joined", 550),
         ("unknown", 12),
         ("random_forms", 200),
+        ("boards", 563),
+        ("random_boards", 200),
     ];
     assert_eq!(lengths, said);
 }
@@ -82,6 +95,13 @@ fn the_short_parts_stand_first_as_they_are() {
     let parts = parts().into_iter().take(13);
     let all = parts.flat_map(|(_, forms)| forms);
     assert!(all.into_iter().all(|form| matches!(form, Form::Short(_))));
+}
+
+/// So do the parts about joined files and unknown calls, up to `random_forms`.
+#[test]
+fn the_joined_parts_stand_next_as_they_are() {
+    assert_eq!(check_up_to("stdin", 6_011_228), 3_790_703_533);
+    assert_eq!(check_up_to("stdout", 704_359), 3_078_813_323);
 }
 
 // ---- what the stream holds
@@ -141,6 +161,9 @@ fn answers() -> BTreeMap<String, usize> {
     answers.insert("join joined".to_string(), 100);
     answers.extend([1, 2, 3, 4, 5, 8].map(|number| (format!("join refused{number}"), 10)));
     answers.insert("join refused9".to_string(), 3);
+    answers.insert("combine combined".to_string(), 400);
+    answers.insert("combine short".to_string(), 5);
+    answers.extend([7, 13, 14].map(|number| (format!("combine refused{number}"), 20)));
     answers.insert("call unknown".to_string(), 6);
     answers
 }
@@ -168,7 +191,7 @@ fn every_answer_and_every_kind_comes_up_often() {
 fn executed(part: Vec<Case>) -> BTreeSet<Op> {
     let mut executed = BTreeSet::new();
     for case in part {
-        walk(&case, |operation, _| {
+        walk(&case, |operation, _, _| {
             executed.insert(encode(operation));
         });
     }

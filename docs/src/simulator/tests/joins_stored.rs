@@ -10,7 +10,7 @@ use simulator::file::{check_file, file_length};
 use simulator::form::{line, Form};
 use simulator::generate::pairs::{joined_file, needed};
 use simulator::generate::runs::{joined, parts};
-use simulator::long::{Call, Long};
+use simulator::long::{long_bytes, Call, Long};
 use simulator::operation::Operation;
 use simulator::state::loops_around;
 use simulator::succession::{faults, in_succession, Pair};
@@ -390,35 +390,43 @@ fn unknown_calls_have_something_to_read_over() {
         let [Form::Long(long), Form::Short(run)] = two else {
             panic!("an unknown call and a run");
         };
-        let Call::Unknown(what) = long.call else {
-            panic!("an unknown call");
-        };
-        calls.push(what);
+        calls.push(long_bytes(long)[111]);
         let (first, second) = (&long.start.file, &long.second);
         assert!(!first.is_empty() && !second.is_empty() && !long.start.memory.is_empty());
-        assert_eq!(lines[0], "unknown");
+        // 22 is here: 65,536 and -5, of which the second's SA is set.
+        let due = match long.call {
+            Call::Combine => "combined 65531 0 1",
+            _ => "unknown",
+        };
+        assert_eq!(lines[0], due);
         assert_eq!(lines[1], line(&Form::Short(run.clone())));
         assert!(lines[1].starts_with("done "));
     }
     assert_eq!(calls, [18, 19, 20, 21, 22, 255]);
 }
 
-/// The random cases are joins, runs of both forms and unknown calls.
+/// The random cases are joins, runs of both forms and unknown calls; in one a program
+/// file stands for stretches.
 #[test]
 fn the_random_forms_are_of_every_kind() {
     let mut seen: BTreeMap<&str, usize> = BTreeMap::new();
-    for form in part("random_forms") {
+    for (form, line) in part("random_forms")
+        .into_iter()
+        .zip(stored_lines("random_forms"))
+    {
         let name = match form {
             Form::Short(_) => "short",
             Form::Long(long) => match long.call {
                 Call::Run => "run",
                 Call::Join => "join",
+                Call::Combine => "combine",
                 Call::Unknown(_) => "unknown",
             },
         };
+        assert_eq!(line == "short", name == "combine");
         *seen.entry(name).or_default() += 1;
     }
     println!("{seen:?}");
     assert!(seen["short"] >= 30 && seen["run"] >= 30 && seen["join"] >= 50);
-    assert!(seen["unknown"] >= 1);
+    assert!(seen["unknown"] >= 1 && seen["combine"] == 1);
 }

@@ -8,12 +8,12 @@ use residue::are_exact;
 use simulator::cases::Case;
 use simulator::congruence::{engine_of, faults, is_bound, ledger_of, onward_of};
 use simulator::generate::case::accepted_run;
-use simulator::generate::coverage::walk;
 use simulator::generate::onward::bound_run;
 use simulator::generate::random::Random;
 use simulator::integer::Integer;
 use simulator::ledger::{LedgerEnding, LedgerOutcome};
 use simulator::onward::OnwardOutcome;
+use simulator::walk::walk;
 use simulator::whole::Whole;
 use simulator::words::Reading;
 use simulator::{Ending, Outcome};
@@ -59,7 +59,7 @@ fn is_beyond(number: &Integer, n: u32) -> bool {
 
 impl Seen {
     fn add(&mut self, case: &Case) {
-        let engine = walk(case, |operation, before| {
+        let engine = walk(case, |operation, before, _| {
             self.kinds[usize::from(operation.kind())] += 1;
             self.depths[usize::from(before.flow.active)] += 1;
         });

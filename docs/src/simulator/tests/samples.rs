@@ -8,10 +8,15 @@ use mnemonic::mnemonic;
 
 use simulator::assemble::assemble_text;
 use simulator::cases::{bytes_of, line, Case};
+use simulator::combine::{combine, Combined};
+use simulator::combine_form::boards_of;
 use simulator::congruence::ledger_of;
 use simulator::file::check_file;
 use simulator::ledger::LedgerEnding;
-use simulator::samples::{case_of, NAMES};
+use simulator::long::{long_bytes, long_line};
+use simulator::mode::Mode;
+use simulator::samples::{case_of, sum_case, NAMES, SUM};
+use simulator::stretches::{broken, faults as faults_of_sum, watch, Sum};
 use simulator::succession::{faults, Pair};
 use simulator::tally::{tally_case, tally_line};
 use simulator::{join, Ending, Outcome};
@@ -398,6 +403,205 @@ fn the_wish_on_both_filters() {
         pair.first.budget = budget;
         assert_eq!(faults(&pair), [], "budget {budget}");
     }
+}
+
+// ---- the correlation
+
+/// The stretches: the first i and the number of products.
+const STRETCHES: [(i64, i64); 3] = [(0, 13), (13, 29), (42, 18)];
+const WHOLE: (i64, i64) = (0, 60);
+const LAG: i64 = 4;
+
+fn x(i: i64) -> i64 {
+    250 * (5 + i)
+}
+
+fn y(j: i64) -> i64 {
+    300 * (45 - j)
+}
+
+/// The sum of the numbers in brackets for i below n, by the formula of the text.
+fn brackets(n: i64) -> i64 {
+    205 * n + 18 * n * (n - 1) - (n - 1) * n * (2 * n - 1) / 6
+}
+
+/// The sum of products from i on, one by one.
+fn correlated((first, count): (i64, i64)) -> i64 {
+    let products = (first..first + count).map(|i| 2 * x(i) * y(i + LAG));
+    products.sum()
+}
+
+fn stretch_name(k: usize) -> String {
+    format!("correlation_{}", k + 1)
+}
+
+/// The words, A and B of a stretch or of the whole.
+fn check_correlation(case: &Case, (first, count): (i64, i64)) {
+    let (outcome, memory) = run_whole(case);
+    let row = |from: i64, count: i64, word: fn(i64) -> i64| -> Vec<i64> {
+        (from..from + count).map(word).collect()
+    };
+    let xs = row(first, count, x);
+    let ys = row(first, count + LAG, y);
+    assert_eq!(words(&memory, 0x1100, xs.len()), xs);
+    assert_eq!(words(&memory, 0x1800, ys.len()), ys);
+    let past = 65_536 * y(first + count + LAG);
+    let sum = correlated((first, count));
+    assert_eq!(outcome.state.accumulators, [sum, past]);
+    assert_eq!(i64::from(outcome.steps), 5 * count + 22);
+}
+
+#[test]
+fn the_correlation_and_its_stretches() {
+    check_correlation(&own_case("correlation"), WHOLE);
+    for (k, stretch) in STRETCHES.into_iter().enumerate() {
+        check_correlation(&own_case(&stretch_name(k)), stretch);
+    }
+    for name in NAMES.iter().filter(|name| name.starts_with("correlation")) {
+        assert_eq!(own_case(name), plain_case(name));
+    }
+}
+
+#[test]
+fn the_figures_of_the_correlation_texts() {
+    assert_eq!([13, 42, 60].map(brackets), [4_823, 15_785, 5_810]);
+    let by_formula = |(first, count): (i64, i64)| brackets(first + count) - brackets(first);
+    assert_eq!(STRETCHES.map(by_formula), [4_823, 10_962, -9_975]);
+    for stretch in STRETCHES.into_iter().chain([WHOLE]) {
+        assert_eq!(correlated(stretch), 150_000 * by_formula(stretch));
+    }
+    assert_eq!(
+        STRETCHES.map(correlated),
+        [723_450_000, 1_644_300_000, -1_496_250_000]
+    );
+    assert_eq!(correlated(WHOLE), 871_500_000);
+}
+
+/// The boards' runs under a mode word, each from its stored program file.
+fn boards_under(mode: u16) -> Sum {
+    let run = |k: usize| under(own_case(&stretch_name(k)), mode);
+    Sum::of_runs(Mode(mode), (0..3).map(run).collect())
+}
+
+fn under(mut case: Case, mode: u16) -> Case {
+    case.state.mode = Mode(mode);
+    case
+}
+
+/// A, OA and SA of the boards combined.
+fn combined(sum: &Sum) -> (i64, bool, bool) {
+    assert_eq!((faults_of_sum(sum), broken(sum)), (vec![], vec![]));
+    let (boards, count) = sum.boards();
+    let Combined { a, oa, sa } = combine(&boards, count, sum.mode).expect("boards");
+    (a, oa, sa)
+}
+
+fn whole_under(mode: u16) -> (i64, bool) {
+    let case = under(own_case("correlation"), mode);
+    let (outcome, _) = case.run(case.budget);
+    (outcome.state.accumulators[0], outcome.state.saturated[0])
+}
+
+/// The stretches' products are the whole's, and the stored case has their A and SA.
+#[test]
+fn the_stored_sum_is_that_of_the_stretches() {
+    let sum = boards_under(0x0020);
+    assert_eq!(sum.pairs, watch(&own_case("correlation")).pairs);
+    assert_eq!(sum.lengths, [13, 29, 18]);
+    let lines: String = (0..3)
+        .map(|k| String::from_utf8(stored(&stretch_name(k), "line")).unwrap())
+        .collect();
+    let case = sum_case(&lines).expect("three lines");
+    let stored_case = stored(SUM, "case");
+    assert!(stored_case == long_bytes(&case));
+    assert_eq!(stored_case.len(), 320 + 27);
+    assert_eq!(case.start.state.mode, Mode(0x0020));
+    let (boards, count) = sum.boards();
+    assert_eq!(
+        (boards_of(&case.start.file), case.start.budget),
+        (boards, count)
+    );
+    let line = String::from_utf8(stored(SUM, "line")).unwrap();
+    assert_eq!(line, long_line(&case) + "\n");
+    assert_eq!(line, "combined 871500000 0 0\n");
+    assert_eq!(whole_under(0x0020), (871_500_000, false));
+}
+
+/// Lines that are none, and boards with two mode words.
+#[test]
+fn other_lines_are_no_sum() {
+    let line = String::from_utf8(stored("correlation_1", "line")).unwrap();
+    let other = line.replace(" 0020 ", " 0021 ");
+    assert!(sum_case(&(line.clone() + &line)).is_some());
+    assert!(sum_case(&(line + &other)).is_none());
+    assert!(sum_case("").is_none());
+    assert!(sum_case("refused1\n").is_none());
+}
+
+/// What the README says of other mode words.
+#[test]
+fn the_correlation_in_other_mode_words() {
+    // 40 bits, saturation on or off: the same.
+    for mode in [0x0020, 0x0030, 0x00B0] {
+        assert_eq!(combined(&boards_under(mode)), (871_500_000, false, false));
+        assert_eq!(whole_under(mode), (871_500_000, false));
+    }
+    // 32 bits: no board's SA is set, and the combined one is.
+    let narrow = boards_under(0x00A0);
+    assert!(narrow.boards().0.iter().all(|board| !board.sa));
+    assert_eq!(combined(&narrow), (651_233_647, false, true));
+    assert_eq!(2_147_483_647 - 1_496_250_000, 651_233_647);
+    assert_eq!(whole_under(0x00A0), (651_233_647, true));
+    // Integer mode: half of it all, within 32 bits.
+    for mode in [0x0021, 0x00A1, 0x00B1] {
+        assert_eq!(combined(&boards_under(mode)), (435_750_000, false, false));
+        assert_eq!(whole_under(mode), (435_750_000, false));
+    }
+}
+
+/// A stretch's program with other numbers: the literals and counts of operations 1, 4, 8,
+/// 11 and 17.
+fn stretch_program((first, count): (i64, i64)) -> Vec<u8> {
+    let mut file = stored("correlation_1", "bin");
+    let mut put = |operation: usize, value: i64| {
+        let at = 8 + 8 * operation + 2;
+        file[at..at + 2].copy_from_slice(&(value as u16).to_le_bytes());
+    };
+    put(1, x(first));
+    put(4, count - 1);
+    put(8, y(first));
+    put(11, count + LAG - 1);
+    put(17, count - 2);
+    common::set_sum(&mut file);
+    file
+}
+
+#[test]
+fn the_stretches_are_one_program_with_other_numbers() {
+    for (k, stretch) in STRETCHES.into_iter().enumerate() {
+        assert_eq!(stretch_program(stretch), stored(&stretch_name(k), "bin"));
+    }
+    assert_eq!(stretch_program(WHOLE), stored("correlation", "bin"));
+}
+
+/// Cut in two after 30 products no sum leaves 32 bits, and the combined A is exact where
+/// one board alone is not.
+#[test]
+fn another_cutting_of_the_correlation() {
+    let run = |stretch| under(plain(&stretch_program(stretch)), 0x00A0);
+    let sum = Sum::of_runs(Mode(0x00A0), [(0, 30), (30, 30)].map(run).to_vec());
+    assert_eq!(
+        sum.boards().0[..2]
+            .iter()
+            .map(|board| board.a)
+            .collect::<Vec<_>>(),
+        [1_988_250_000, -1_116_750_000]
+    );
+    assert_eq!(combined(&sum), (871_500_000, false, false));
+}
+
+fn plain(file: &[u8]) -> Case {
+    tally_case(file)
 }
 
 // ---- the reorder

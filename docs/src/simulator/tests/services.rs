@@ -4,7 +4,6 @@
 use simulator::cases::Case;
 use simulator::file::check_file;
 use simulator::flow::NO_LOOP;
-use simulator::generate::coverage::walk;
 use simulator::generate::random::Random;
 use simulator::generate::services::random::{bound_service, random_service};
 use simulator::ledger::ListedStore;
@@ -12,6 +11,7 @@ use simulator::operation::{Operation, Target, WriteBack};
 use simulator::service::*;
 use simulator::state::loops_around;
 use simulator::statement::{faults, faults_of, is_bound_by_3};
+use simulator::walk::walk;
 use simulator::{Ending, State};
 
 /// The kinds of services and bags that came up.
@@ -182,7 +182,7 @@ impl Seen {
                 budget: asked.budget,
                 ..service.start.clone()
             };
-            walk(&case, |operation, _| {
+            walk(&case, |operation, _, _| {
                 rounded |= operation.kind() == 15;
                 written_back |= operation.write_back() != WriteBack::None;
                 changed |= operation.kind() == 24;

@@ -4,8 +4,8 @@ mod common;
 use common::*;
 
 use simulator::cases::{bytes_of, next_case, Case};
-use simulator::generate::coverage::walk;
 use simulator::generate::speed::{by_loops, by_repeat};
+use simulator::walk::walk;
 use simulator::Ending;
 
 /// The only case of a stored file.
@@ -20,7 +20,7 @@ fn stored(name: &str) -> Case {
 /// The steps, the MACs among them, the least and the largest A.
 fn measured(case: &Case) -> (u32, u32, i64, i64) {
     let (mut macs, mut least, mut most) = (0, 0, 0);
-    let outcome = walk(case, |operation, before| {
+    let outcome = walk(case, |operation, before, _| {
         macs += u32::from(operation.kind() == 3);
         least = before.accumulators[0].min(least);
         most = before.accumulators[0].max(most);

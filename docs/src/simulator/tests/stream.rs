@@ -3,7 +3,7 @@
 
 use simulator::form::print_lines;
 use simulator::generate::coverage::coverage;
-use simulator::generate::{generate, joined_mix, short_mix};
+use simulator::generate::{generate, long_mix, short_mix};
 
 const SEED: u64 = 1;
 const CASES: usize = 2_000;
@@ -58,18 +58,18 @@ fn every_ending_refusal_and_kind_is_covered() {
     assert!(coverage.depths.iter().all(|&seen| seen >= 200));
 }
 
-/// The mix of joins and runs of joined files, printed as it says.
+/// The mix of joins, runs of joined files and combined boards, printed as it says.
 #[test]
-fn every_answer_about_joined_files_is_covered() {
-    let (stream, lines) = generate(joined_mix, SEED, CASES).unwrap();
-    let mut printed = Vec::new();
-    print_lines(stream.as_slice(), &mut printed).unwrap();
-    assert_eq!(printed, lines);
+fn every_answer_of_the_long_mix_is_covered() {
+    let (stream, lines) = generate(long_mix, SEED, CASES).unwrap();
+    assert_eq!(printed(&stream), lines);
     let coverage = coverage(&stream);
     println!("{:#?}, {} bytes", coverage.endings, stream.len());
     assert_eq!(coverage.cases, CASES);
     let mut names: Vec<String> = vec!["join joined".into(), "call unknown".into()];
     names.extend([1, 2, 3, 4, 5, 8, 9].map(|n| format!("join refused{n}")));
+    names.extend(["combine combined".into(), "combine short".into()]);
+    names.extend([7, 13, 14].map(|n| format!("combine refused{n}")));
     for form in ["run", "long"] {
         names.extend(["done", "spent"].map(|ending| format!("{form} {ending}")));
         names.extend((1..=7).map(|n| format!("{form} trap{n}")));
@@ -79,4 +79,28 @@ fn every_answer_about_joined_files_is_covered() {
         let seen = coverage.endings.get(name).copied().unwrap_or(0);
         assert!(seen >= 3, "{name}: {seen}");
     }
+}
+
+fn printed(stream: &[u8]) -> Vec<u8> {
+    let mut printed = Vec::new();
+    print_lines(stream, &mut printed).unwrap();
+    printed
+}
+
+/// A case whose file is of another length than its number of stretches asks for stands
+/// first, last and between, and a line follows for each case after it.
+#[test]
+fn a_stream_of_the_long_mix_goes_on_after_short() {
+    let mut short = [0; 5];
+    for seed in 0..300 {
+        let (stream, lines) = generate(long_mix, seed, 5).unwrap();
+        assert_eq!(printed(&stream), lines, "seed {seed}");
+        let lines = String::from_utf8(lines).unwrap();
+        assert_eq!(lines.lines().count(), 5);
+        for (place, line) in lines.lines().enumerate() {
+            short[place] += usize::from(line == "short");
+        }
+    }
+    println!("{short:?} of 300");
+    assert!(short.iter().all(|count| (3..=40).contains(count)));
 }

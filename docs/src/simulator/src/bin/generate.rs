@@ -1,14 +1,14 @@
 //! generate SEED COUNT STREAM_FILE LINES_FILE: writes a stream of COUNT runs, loads and
 //! writes and the lines that must be printed for it.
-//! generate long SEED COUNT STREAM_FILE LINES_FILE: the same of joins and runs of joined
-//! files.
+//! generate long SEED COUNT STREAM_FILE LINES_FILE: the same of joins, runs of joined
+//! files and combined boards, some of which print `short`.
 
 use std::fs::File;
 use std::io::BufWriter;
 use std::process::ExitCode;
 
 use simulator::command::exit_code;
-use simulator::generate::{generate_into, joined_mix, short_mix, Mix};
+use simulator::generate::{generate_into, long_mix, short_mix, Mix};
 
 fn main() -> ExitCode {
     exit_code(generate())
@@ -17,7 +17,7 @@ fn main() -> ExitCode {
 fn generate() -> Result<(), String> {
     let arguments: Vec<String> = std::env::args().skip(1).collect();
     let (mix, rest): (Mix, &[String]) = match arguments.split_first() {
-        Some((first, rest)) if first == "long" => (joined_mix, rest),
+        Some((first, rest)) if first == "long" => (long_mix, rest),
         _ => (short_mix, &arguments),
     };
     let [seed, count, stream_file, lines_file] = rest else {

@@ -5,20 +5,19 @@ use std::collections::BTreeMap;
 use crate::address::{circular_step, plain_step};
 use crate::cases::{Case, What};
 use crate::ending::Ending;
-use crate::engine::{accept, Outcome};
 use crate::form::{forms_of, line, Form};
 use crate::long::Call;
-use crate::memory::Memory;
 use crate::operation::{Change, Operand, Operation, ReadAddress, Register};
 use crate::settings::Settings;
 use crate::state::State;
-use crate::step::{Machine, Step};
+use crate::walk::walk;
 
 #[derive(Clone, Debug, Default)]
 pub struct Coverage {
     pub cases: usize,
     /// Runs by their ending, other calls by their answer: `run done`, `run trap3`,
-    /// `load refused2`, `write written`, `long done`, `join refused9`, `call unknown`.
+    /// `load refused2`, `write written`, `long done`, `join refused9`,
+    /// `combine combined`, `call unknown`.
     pub endings: BTreeMap<String, usize>,
     /// Executions of each kind, traps without effect not counted.
     pub kinds: [u64; 26],
@@ -62,7 +61,7 @@ impl Coverage {
     /// Count a run's start, and its kinds by stepping through it.
     fn add_run(&mut self, case: &Case) -> Ending {
         let flow = &case.state.flow;
-        let outcome = walk(case, |operation, before| {
+        let outcome = walk(case, |operation, before, _| {
             self.note(operation, before, &case.settings)
         });
         if !matches!(outcome.ending, Ending::Refused(_)) {
@@ -98,49 +97,6 @@ impl Coverage {
             self.reversed_steps += 1;
         }
     }
-}
-
-/// A case's run step by step: each executed operation, traps without effect not
-/// among them, is visited with the state before it.
-pub fn walk(case: &Case, mut visit: impl FnMut(&Operation, &State)) -> Outcome {
-    let (settings, state) = (&case.settings, &case.state);
-    let mut memory = case.memory.clone();
-    let outcome = |ending, state, steps| Outcome {
-        ending,
-        state,
-        steps,
-    };
-    let operations = match accept(&case.file, settings, state, memory.len()) {
-        Ok(operations) => operations,
-        Err(number) => return outcome(Ending::Refused(number), *state, 0),
-    };
-    let mut machine = Machine {
-        state: *state,
-        operations: &operations,
-        settings,
-        memory: Memory::new(&mut memory, settings.x_words),
-    };
-    let mut steps = 0;
-    let ending = loop {
-        let pc = usize::from(machine.state.flow.pc);
-        let Some(operation) = operations.get(pc) else {
-            break Ending::Done;
-        };
-        if steps == case.budget {
-            break Ending::Spent;
-        }
-        let before = machine.state;
-        let step = machine.step();
-        if let Step::Blocked(trap) = step {
-            break Ending::Trap(trap);
-        }
-        steps += 1;
-        visit(operation, &before);
-        if let Step::Trapped(trap) = step {
-            break Ending::Trap(trap);
-        }
-    };
-    outcome(ending, machine.state, steps)
 }
 
 /// The X and Y read of an operation.
@@ -191,6 +147,7 @@ fn call_of(form: &Form) -> &'static str {
         Form::Long(long) => match long.call {
             Call::Run => "long",
             Call::Join => "join",
+            Call::Combine => "combine",
             Call::Unknown(_) => "call",
         },
     }

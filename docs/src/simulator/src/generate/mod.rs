@@ -3,12 +3,15 @@
 
 pub mod bench;
 pub mod blocks;
+pub mod boards;
 pub mod case;
 pub mod coverage;
 pub mod damage;
+pub mod dot_product;
 pub mod edges;
 pub mod forms;
 pub mod layout;
+pub mod long_sums;
 pub mod misses;
 pub mod onward;
 pub mod ops;
@@ -31,6 +34,7 @@ use std::io::{self, Write};
 
 use crate::cases::{Case, What};
 use crate::form::{bytes_of, line, Form};
+use boards::{cut_combine, random_combine};
 use random::Random;
 use random_form::random_form;
 
@@ -76,9 +80,14 @@ pub fn short_mix(random: &mut Random) -> Form {
     Form::Short(random_case(random))
 }
 
-/// The mix of joins and runs of joined files, short and long.
-pub fn joined_mix(random: &mut Random) -> Form {
-    random_form(random)
+/// The mix of joins, runs of joined files, short and long, and combined boards, of which
+/// some have a file of another length.
+pub fn long_mix(random: &mut Random) -> Form {
+    match random.below(24) {
+        0..=4 => Form::Long(random_combine(random)),
+        5 => Form::Long(cut_combine(random)),
+        _ => random_form(random),
+    }
 }
 
 /// Write a stream of so many cases of a mix, and its lines.

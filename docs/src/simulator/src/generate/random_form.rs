@@ -11,7 +11,7 @@ use crate::form::Form;
 use crate::long::{Call, Long};
 use crate::succession::Pair;
 
-/// One case: a join, a run of a joined file, another long run, a call that is not here.
+/// One case: a join, a run of a joined file, another long run, another call.
 pub fn random_form(random: &mut Random) -> Form {
     match random.below(40) {
         0..=9 => {
@@ -100,16 +100,18 @@ fn large_pair(random: &mut Random) -> Pair {
     pair
 }
 
+/// A call that is not here, or 22, to which a program file is of another length than its
+/// budget asks for.
 fn unknown_form(random: &mut Random, pair: Pair) -> Form {
     let any = random.range(18, 255) as u8;
     unknown_case(random.pick(&[18, 19, 20, 21, 22, any]), pair)
 }
 
-/// A call that is not here, with two files and words of memory, and lent slices where
-/// CASES.md gives it any.
+/// A call with two files and words of memory, and lent slices where CASES.md gives it
+/// any.
 pub fn unknown_case(what: u8, pair: Pair) -> Form {
     Form::Long(Long {
-        call: Call::Unknown(what),
+        call: Call::of(what),
         start: pair.first,
         second: pair.second,
         words: if matches!(what, 19..=21) { 64 } else { 0 },

@@ -1,5 +1,7 @@
-//! The stored stream of runs, loads, writes and joins for the program `cases`.
+//! The stored stream of runs, loads, writes, joins and combined boards for the program
+//! `cases`.
 
+pub mod boards;
 pub mod budgets;
 pub mod build;
 pub mod carried;
@@ -18,6 +20,7 @@ pub mod sums;
 pub mod unknown;
 
 use super::bench::Bench;
+use super::boards::random_combine;
 use super::random::Random;
 use super::random_case;
 use super::random_form::random_form;
@@ -28,6 +31,7 @@ use crate::form::{bytes_of, Form};
 const SEED: u64 = 20;
 const RANDOM_CASES: usize = 2_000;
 const RANDOM_FORMS: usize = 200;
+const RANDOM_BOARDS: usize = 200;
 /// The longest file and the most words of the stored random cases.
 const SMALL_FILE: usize = 3 * BLOCK;
 const SMALL_MEMORY: usize = 400;
@@ -64,6 +68,8 @@ pub fn parts() -> Vec<(&'static str, Vec<Form>)> {
     parts.push(("joined", joined::cases()));
     parts.push(("unknown", unknown::cases()));
     parts.push(("random_forms", random_forms()));
+    parts.push(("boards", boards::cases()));
+    parts.push(("random_boards", random_boards()));
     parts
 }
 
@@ -119,4 +125,12 @@ fn small_form(random: &mut Random) -> Form {
             return form;
         }
     }
+}
+
+/// Random cases of `combine` with few stretches.
+fn random_boards() -> Vec<Form> {
+    let mut random = Random::new(SEED);
+    let cases = std::iter::repeat_with(|| random_combine(&mut random));
+    let small = cases.filter(|case| case.start.budget <= 40);
+    small.take(RANDOM_BOARDS).map(Form::Long).collect()
 }

@@ -1,14 +1,17 @@
 //! Calls that are not here, with a file, a second file and words of memory to read
-//! over; a run after each shows that they were.
+//! over; a run after each shows that they were. Among them is 22, two stretches to be
+//! combined, with as much to read over.
 
 use super::build::{add, Program};
 use crate::cases::Case;
+use crate::combine::Board;
+use crate::combine_form::stretches_of;
 use crate::form::Form;
 use crate::generate::bench::Bench;
 use crate::generate::random_form::unknown_case;
 use crate::succession::Pair;
 
-/// The calls that CASES.md lists and that are not here, and the last number there is.
+/// The calls that CASES.md lists, 22 alone of them here, and the last number there is.
 const CALLS: [u8; 6] = [18, 19, 20, 21, 22, 255];
 
 pub fn cases() -> Vec<Form> {
@@ -35,9 +38,9 @@ fn read_over(what: u8) -> [Form; 2] {
     [unknown_case(what, pair), Form::Short(run.case)]
 }
 
-/// Two stretches of 9 bytes each.
+/// Two stretches, of which the second's SA is set.
 fn combined(start: &mut Case) {
-    let stretch = |sum: i64, flag: u8| [&sum.to_le_bytes()[..], &[flag]].concat();
-    start.file = [stretch(65_536, 0), stretch(-5, 1)].concat();
+    let board = |a: i64, sa: bool| Board { a, sa };
+    start.file = stretches_of(&[board(65_536, false), board(-5, true)]);
     start.budget = 2;
 }

@@ -1,0 +1,151 @@
+-- A program without strays, begun from A = 0 with SA clear and the mode word, runs a stretch of a dot product. Assumes nothing.
+use Prim.Native.Nat.{ℕ, zero, suc, _+_, _*_, _/_, _%_, _<_, _≤_}
+use mathlib.Core.Bool.{Bool, true, false, not, _&&_, _||_}
+use mathlib.Core.List.{List}
+use mathlib.Core.Path.{_≡_, refl, sym, ap, _∙_, subst}
+use native.Mathlib.Omega.{arith}
+use borrow.Author.Tests.{eqb-true, not-false}
+use lib.Dec.{eqb}
+use lib.IntN.{pos}
+use Rattle.integers.proofs.Whole.{by-test, neither, never}
+use Rattle.accumulator.specs.Mode.{modeOf}
+use Rattle.accumulator.specs.Limit.{writeOf}
+use Rattle.accumulator.specs.declared.mode.Mode.{Mode}
+use Rattle.accumulator.specs.declared.mode.Target.the-variants.{A, B}
+use Rattle.operations.specs.Encode.{encodeOf}
+use Rattle.operations.specs.declared.operation.Operation.{Operation}
+use Rattle.operations.specs.declared.operation.Operation.the-variants.{MacClass as MacOperation, AddAccumulators, Subtract, Negate, Shift, Lac, Add, Sac}
+use Rattle.operations.specs.declared.operation.Operation.the-variants.{SacR, Literal, Load, Store, Repeat, RepeatRegister, Do, DoRegister, EndEarly, SetMode}
+use Rattle.operations.specs.declared.operation.Operation.the-variants.{ClearSaturation}
+use Rattle.program.specs.File.{programOf}
+use Rattle.state.specs.declared.settings.Settings.{Settings}
+use Rattle.state.specs.declared.state.Core.{Core}
+use Rattle.state.specs.declared.state.State.{State}
+use Rattle.effects.specs.Operations.{workOf}
+use Rattle.effects.specs.declared.effect.Exact.{Exact}
+use Rattle.effects.specs.declared.effect.Exact.the-variants.{Keep, Result as ExactResult}
+use Rattle.machine.specs.Write.{settleOf}
+use Rattle.machine.specs.Control.{controlOf, clears, stateControlled}
+use Rattle.machine.specs.Step.{Step, operationAt, stateAfter, completed, stepped}
+use Rattle.machine.proofs.Order.{modeAfter, controlled-frame}
+use Rattle.engine.specs.Run.{Turn, Result}
+use Rattle.engine.specs.Engine.{Engine, turnOf, engineTurn}
+use Rattle.engine.proofs.Holds.{holds-none}
+use Rattle.engine.proofs.Steps.{Leads, transition, each-listed}
+use Rattle.combine.specs.Dot.{writesA, addsToA, Stretch, ranOn, Adds, DotProduct, setsOther, isStray, holdsStray}
+use Rattle.combine.proofs.Stretches.{runOn, stretch-stepwise}
+
+-- ---- an operation
+
+-- one that sets no other mode word leaves this one
+same-mode : (mode : ℕ) (o : Operation) → setsOther mode o ≡ false → modeAfter (controlOf o) mode ≡ mode
+unfolding controlOf encodeOf
+same-mode mode (MacOperation k) h = refl
+same-mode mode (AddAccumulators t) h = refl
+same-mode mode (Subtract t) h = refl
+same-mode mode (Negate t) h = refl
+same-mode mode (Shift t r) h = refl
+same-mode mode (Lac t b2 o) h = refl
+same-mode mode (Add t b2 o) h = refl
+same-mode mode (Sac t b2 o) h = refl
+same-mode mode (SacR t b2 o) h = refl
+same-mode mode (Literal r v) h = refl
+same-mode mode (Load r p post) h = refl
+same-mode mode (Store r p post) h = refl
+same-mode mode (Repeat n) h = refl
+same-mode mode (RepeatRegister r) h = refl
+same-mode mode (Do n last) h = refl
+same-mode mode (DoRegister r last) h = refl
+same-mode mode EndEarly h = refl
+same-mode mode (SetMode word) h =
+    let is = eqb-true (word % 256 + 256 * (word / 256)) mode (not-false (eqb (word % 256 + 256 * (word / 256)) mode) h) in
+    omega (arith, is)
+same-mode mode ClearSaturation h = refl
+
+-- ---- the write
+
+settled-mode : (traps : ℕ) (m : Mode) (e : Exact) (s : State) → settleOf traps m e s .state .core .mode ≡ s .core .mode
+unfolding settleOf
+settled-mode traps m Keep s = refl
+settled-mode traps m (ExactResult A r) s = refl
+settled-mode traps m (ExactResult B r) s = refl
+
+-- SA stays set
+settled-sa : (traps : ℕ) (m : Mode) (e : Exact) (s : State) → s .sa ≡ true → settleOf traps m e s .state .sa ≡ true
+unfolding settleOf writeOf
+settled-sa traps m Keep s h = h
+settled-sa traps m (ExactResult A r) s h = rw h
+settled-sa traps m (ExactResult B r) s h = h
+
+-- ---- a step
+
+implied : (a b : Bool) → (a && not b) ≡ false → a ≡ true → b ≡ true
+implied a true h e = refl
+implied a false h e = never (sym h ∙ rw e)
+
+module _ (mode : ℕ) (p : List Operation) (settings : Settings) where
+  -- the state s before the flags, repeat left, loops and pc are controlled
+  controlled-fits : (x y : Engine) (s : State) (memory : List ℕ)
+      → let o = operationAt p (x .state .core .pc) in
+      isStray mode o ≡ false → s .core .mode ≡ mode → (x .state .sa ≡ true → s .sa ≡ true)
+      → record { state = stateControlled p (controlOf o) s; memory = memory } ≡ y → Adds mode p (record { from = x; to = y })
+  unfolding stateControlled isStray
+  controlled-fits x y s memory fine word flag is =
+      let o = operationAt p (x .state .core .pc) in
+      let k = controlOf o in
+      let t = neither (writesA o && not (addsToA o) || setsOther mode o) (clears k) fine in
+      let u = neither (writesA o && not (addsToA o)) (setsOther mode o) (t .0) in
+      subst (λ (z : Engine). Adds mode p (record { from = x; to = z })) is
+      (record {
+        kind = implied (writesA o) (addsToA o) (u .0);
+        word = ap (λ (c : Core). c .mode) (controlled-frame p k (s .core)) ∙ ap (modeAfter k) word ∙ same-mode mode o (u .1);
+        flag = λ e. rw (t .1) (flag e);
+      })
+
+  step-checked : (x y : Engine) → x .state .core .mode ≡ mode → isStray mode (operationAt p (x .state .core .pc)) ≡ false
+      → Leads (engineTurn p settings x) y → Adds mode p (record { from = x; to = y })
+  unfolding engineTurn stepped completed
+  step-checked x y word fine =
+      let c = x .state .core in
+      let m = modeOf (c .mode) in
+      let o = operationAt p (c .pc) in
+      let work = workOf settings m o c (x .memory) in
+      let e = work .effect .exact in
+      let s = stateAfter m work (x .state) in
+      let settled = settleOf (settings .traps) m e s in
+      let fits =
+      controlled-fits x y (settled .state) _ fine (settled-mode (settings .traps) m e s ∙ word) (settled-sa (settings .traps) m e s) in
+      by-test (λ (r : Step). Leads (turnOf r) y → Adds mode p (record { from = x; to = y })) (eqb (work .effect .trap) 0)
+      (λ f. by-test (λ (u : Turn Engine). Leads u y → Adds mode p (record { from = x; to = y })) (eqb (settled .trap) 0) (λ g. fits) (λ g. fits))
+      (λ f l. absurd l)
+
+-- ---- a run
+
+module _ (mode : ℕ) (x : Stretch) (word : x .state .core .mode ≡ mode) (stray : holdsStray mode (programOf (x .file)) ≡ false) where
+  abbrev p : List Operation
+  p = programOf (x .file)
+
+  abbrev runs : ℕ → Result Engine
+  runs = runOn x
+
+  fine : (at : ℕ) → isStray mode (operationAt p at) ≡ false
+  unfolding isStray writesA addsToA encodeOf controlOf
+  fine at = holds-none (isStray mode) refl p at stray
+
+  step-at : (i : ℕ) → i < ranOn x .steps → runs i .machine .state .core .mode ≡ mode → Adds mode p (transition runs i)
+  step-at i l at = step-checked mode p (x .settings) (runs i .machine) (runs (suc i) .machine) at (fine (runs i .machine .state .core .pc)) (stretch-stepwise x .leads i l .1)
+
+  word-at : (i : ℕ) → i ≤ ranOn x .steps → runs i .machine .state .core .mode ≡ mode
+  word-at zero l = ap (λ (e : Engine). e .state .core .mode) (stretch-stepwise x .begins) ∙ word
+  word-at (suc i) l = step-at i (omega arith) (word-at i (omega arith)) .word
+
+  -- what a user can check of a program and a start
+  pub checked-product : modeOf mode .unsigned ≡ false → x .state .core .a ≡ pos 0 → x .state .sa ≡ false → DotProduct mode x
+  checked-product signed start clear =
+      record {
+        signed = signed;
+        word = word;
+        start = start;
+        clear = clear;
+        steps = each-listed runs (Adds mode p) (ranOn x .steps) (λ i l. step-at i l (word-at i (omega arith)));
+      }

@@ -1,0 +1,9 @@
+pub mod SumExamples
+pub mod Boards
+pub mod Works
+pub mod Stretches
+pub mod Exact
+pub mod Calls
+pub mod Checked
+pub mod Contracts
+pub mod StretchExamples

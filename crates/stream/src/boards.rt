@@ -1,0 +1,63 @@
+// The boards of a case that combines stretches, 9 bytes each: A, then SA.
+use crate::header::long;
+use crate::header::number;
+use crate::header::word;
+use combine::board::Board;
+ghost use mathlib.Core.Path.{_≡_};
+ghost use Prim.Native.Nat.{_+_, _*_, _<_, _≤_};
+ghost use lib.ListN.{length};
+ghost use Rattle.stream.specs.Header.{longAt};
+ghost use Rattle.stream.specs.Boards.{boardIn, entryIn, boardsIn};
+
+// The 32 bits from `at` on.
+fn long_at(bytes: &[u8], at: usize) -> u32
+    requires { ⌜ at + 3 < length (now bytes) ⌝ }
+    ensures { λ r. ⌜ r ≡ longAt (now (bytes .entry)) at ⌝ }
+{
+    let low = word(bytes[at], bytes[at + 1]);
+    let high = word(bytes[at + 2], bytes[at + 3]);
+    long(low, high)
+}
+
+// Board i.
+fn board(bytes: &[u8], i: usize) -> Board
+    requires { ⌜ 9 * i + 8 < length (now bytes) ⌝ }
+    ensures { λ r. ⌜ r ≡ boardIn (now (bytes .entry)) i ⌝ }
+{
+    let at = 9 * i;
+    let low = long_at(bytes, at);
+    let high = long_at(bytes, at + 4);
+    Board {
+        a: number(low, high),
+        sa: bytes[at + 8] != 0,
+    }
+}
+
+// Entry i of the call: board i, or of no run from the count on.
+fn entry(bytes: &[u8], count: usize, i: usize) -> Board
+    requires { ⌜ 9 * count ≤ length (now bytes) ⌝ }
+    ensures { λ r. ⌜ r ≡ entryIn (now (bytes .entry)) count i ⌝ }
+{
+    if i < count {
+        board(bytes, i)
+    } else {
+        Board::none()
+    }
+}
+
+// The eight entries.
+pub fn boards(bytes: &[u8], count: usize) -> [Board; 8]
+    requires { ⌜ 9 * count ≤ length (now bytes) ⌝ }
+    ensures { λ r. ⌜ r ≡ boardsIn (now (bytes .entry)) count ⌝ }
+{
+    [
+        entry(bytes, count, 0),
+        entry(bytes, count, 1),
+        entry(bytes, count, 2),
+        entry(bytes, count, 3),
+        entry(bytes, count, 4),
+        entry(bytes, count, 5),
+        entry(bytes, count, 6),
+        entry(bytes, count, 7),
+    ]
+}
