@@ -28,7 +28,7 @@ module _ (boards : List Board) (count mode : ℕ) where
   combine-refused n e h =
       record {
         answer = rw (sym e) (if-refused n (Sum (combinedOf (modeOf mode) boards count)) (Refused n) h);
-        exact = λ whole cut stretch is runs sum e′ clear. absurd (subst IsRefused e′ tt);
+        exact = λ whole cut call is runs sum e′ clear. absurd (subst IsRefused e′ tt);
       }
 
   pub combine-accepted : combineRefusal boards count mode ≡ 0 → Combines boards count mode (Sum (combinedOf (modeOf mode) boards count))
@@ -36,8 +36,8 @@ module _ (boards : List Board) (count mode : ℕ) where
   combine-accepted z =
       record {
         answer = rw z;
-        exact = λ whole cut stretch is runs sum e clear.
+        exact = λ whole cut call is runs sum e clear.
             let same : combinedOf (modeOf mode) boards count ≡ sum = ap (sumOf sum) e in
             ap (λ (x : Accumulator). x .value) (sym same)
-            ∙ cut-exact whole cut stretch count is mode boards runs (ap (λ (x : Accumulator). x .saturation) same ∙ clear);
+            ∙ cut-exact whole cut call count is mode boards runs (ap (λ (x : Accumulator). x .saturation) same ∙ clear);
       }

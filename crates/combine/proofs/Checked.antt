@@ -7,11 +7,9 @@ use native.Mathlib.Omega.{arith}
 use borrow.Author.Tests.{eqb-true, not-false}
 use lib.Dec.{eqb}
 use lib.IntN.{pos}
-use Rattle.integers.proofs.Whole.{by-test, neither, never}
+use Rattle.integers.proofs.Whole.{neither, never}
 use Rattle.accumulator.specs.Mode.{modeOf}
-use Rattle.accumulator.specs.Limit.{writeOf}
-use Rattle.accumulator.specs.declared.mode.Mode.{Mode}
-use Rattle.accumulator.specs.declared.mode.Target.the-variants.{A, B}
+use Rattle.accumulator.specs.declared.mode.Target.the-variants.{A}
 use Rattle.operations.specs.Encode.{encodeOf}
 use Rattle.operations.specs.declared.operation.Operation.{Operation}
 use Rattle.operations.specs.declared.operation.Operation.the-variants.{MacClass as MacOperation, AddAccumulators, Subtract, Negate, Shift, Lac, Add, Sac}
@@ -22,17 +20,17 @@ use Rattle.state.specs.declared.settings.Settings.{Settings}
 use Rattle.state.specs.declared.state.Core.{Core}
 use Rattle.state.specs.declared.state.State.{State}
 use Rattle.effects.specs.Operations.{workOf}
-use Rattle.effects.specs.declared.effect.Exact.{Exact}
-use Rattle.effects.specs.declared.effect.Exact.the-variants.{Keep, Result as ExactResult}
 use Rattle.machine.specs.Write.{settleOf}
 use Rattle.machine.specs.Control.{controlOf, clears, stateControlled}
-use Rattle.machine.specs.Step.{Step, operationAt, stateAfter, completed, stepped}
+use Rattle.machine.specs.Step.{operationAt, stateAfter}
 use Rattle.machine.proofs.Order.{modeAfter, controlled-frame}
-use Rattle.engine.specs.Run.{Turn, Result}
-use Rattle.engine.specs.Engine.{Engine, turnOf, engineTurn}
+use Rattle.machine.proofs.Works.{settled-mode}
+use Rattle.engine.specs.Run.{Result}
+use Rattle.engine.specs.Engine.{Engine, engineTurn}
 use Rattle.engine.proofs.Holds.{holds-none}
-use Rattle.engine.proofs.Steps.{Leads, transition, each-listed}
-use Rattle.combine.specs.Dot.{writesA, addsToA, Stretch, ranOn, Adds, DotProduct, setsOther, isStray, holdsStray}
+use Rattle.engine.proofs.Agree.{settle-stays}
+use Rattle.engine.proofs.Steps.{Leads, turn-completes, transition, each-listed}
+use Rattle.combine.specs.Dot.{writesA, addsToA, BoardCall, ranOn, StepFits, CallFits, setsOther, isStray, holdsStray}
 use Rattle.combine.proofs.Stretches.{runOn, stretch-stepwise}
 
 -- ---- an operation
@@ -62,21 +60,6 @@ same-mode mode (SetMode word) h =
     omega (arith, is)
 same-mode mode ClearSaturation h = refl
 
--- ---- the write
-
-settled-mode : (traps : ℕ) (m : Mode) (e : Exact) (s : State) → settleOf traps m e s .state .core .mode ≡ s .core .mode
-unfolding settleOf
-settled-mode traps m Keep s = refl
-settled-mode traps m (ExactResult A r) s = refl
-settled-mode traps m (ExactResult B r) s = refl
-
--- SA stays set
-settled-sa : (traps : ℕ) (m : Mode) (e : Exact) (s : State) → s .sa ≡ true → settleOf traps m e s .state .sa ≡ true
-unfolding settleOf writeOf
-settled-sa traps m Keep s h = h
-settled-sa traps m (ExactResult A r) s h = rw h
-settled-sa traps m (ExactResult B r) s h = h
-
 -- ---- a step
 
 implied : (a b : Bool) → (a && not b) ≡ false → a ≡ true → b ≡ true
@@ -88,14 +71,14 @@ module _ (mode : ℕ) (p : List Operation) (settings : Settings) where
   controlled-fits : (x y : Engine) (s : State) (memory : List ℕ)
       → let o = operationAt p (x .state .core .pc) in
       isStray mode o ≡ false → s .core .mode ≡ mode → (x .state .sa ≡ true → s .sa ≡ true)
-      → record { state = stateControlled p (controlOf o) s; memory = memory } ≡ y → Adds mode p (record { from = x; to = y })
+      → record { state = stateControlled p (controlOf o) s; memory = memory } ≡ y → StepFits mode p (record { from = x; to = y })
   unfolding stateControlled isStray
   controlled-fits x y s memory fine word flag is =
       let o = operationAt p (x .state .core .pc) in
       let k = controlOf o in
       let t = neither (writesA o && not (addsToA o) || setsOther mode o) (clears k) fine in
       let u = neither (writesA o && not (addsToA o)) (setsOther mode o) (t .0) in
-      subst (λ (z : Engine). Adds mode p (record { from = x; to = z })) is
+      subst (λ (z : Engine). StepFits mode p (record { from = x; to = z })) is
       (record {
         kind = implied (writesA o) (addsToA o) (u .0);
         word = ap (λ (c : Core). c .mode) (controlled-frame p k (s .core)) ∙ ap (modeAfter k) word ∙ same-mode mode o (u .1);
@@ -103,25 +86,20 @@ module _ (mode : ℕ) (p : List Operation) (settings : Settings) where
       })
 
   step-checked : (x y : Engine) → x .state .core .mode ≡ mode → isStray mode (operationAt p (x .state .core .pc)) ≡ false
-      → Leads (engineTurn p settings x) y → Adds mode p (record { from = x; to = y })
-  unfolding engineTurn stepped completed
-  step-checked x y word fine =
+      → Leads (engineTurn p settings x) y → StepFits mode p (record { from = x; to = y })
+  step-checked x y word fine leads =
       let c = x .state .core in
       let m = modeOf (c .mode) in
-      let o = operationAt p (c .pc) in
-      let work = workOf settings m o c (x .memory) in
+      let work = workOf settings m (operationAt p (c .pc)) c (x .memory) in
       let e = work .effect .exact in
       let s = stateAfter m work (x .state) in
-      let settled = settleOf (settings .traps) m e s in
-      let fits =
-      controlled-fits x y (settled .state) _ fine (settled-mode (settings .traps) m e s ∙ word) (settled-sa (settings .traps) m e s) in
-      by-test (λ (r : Step). Leads (turnOf r) y → Adds mode p (record { from = x; to = y })) (eqb (work .effect .trap) 0)
-      (λ f. by-test (λ (u : Turn Engine). Leads u y → Adds mode p (record { from = x; to = y })) (eqb (settled .trap) 0) (λ g. fits) (λ g. fits))
-      (λ f l. absurd l)
+      let (none, is) = turn-completes p settings x y leads in
+      controlled-fits x y (settleOf (settings .traps) m e s .state) _ fine (settled-mode (settings .traps) m e s ∙ word)
+      (settle-stays m (settings .traps) A e s) is
 
 -- ---- a run
 
-module _ (mode : ℕ) (x : Stretch) (word : x .state .core .mode ≡ mode) (stray : holdsStray mode (programOf (x .file)) ≡ false) where
+module _ (mode : ℕ) (x : BoardCall) (word : x .state .core .mode ≡ mode) (stray : holdsStray mode (programOf (x .file)) ≡ false) where
   abbrev p : List Operation
   p = programOf (x .file)
 
@@ -132,7 +110,7 @@ module _ (mode : ℕ) (x : Stretch) (word : x .state .core .mode ≡ mode) (stra
   unfolding isStray writesA addsToA encodeOf controlOf
   fine at = holds-none (isStray mode) refl p at stray
 
-  step-at : (i : ℕ) → i < ranOn x .steps → runs i .machine .state .core .mode ≡ mode → Adds mode p (transition runs i)
+  step-at : (i : ℕ) → i < ranOn x .steps → runs i .machine .state .core .mode ≡ mode → StepFits mode p (transition runs i)
   step-at i l at = step-checked mode p (x .settings) (runs i .machine) (runs (suc i) .machine) at (fine (runs i .machine .state .core .pc)) (stretch-stepwise x .leads i l .1)
 
   word-at : (i : ℕ) → i ≤ ranOn x .steps → runs i .machine .state .core .mode ≡ mode
@@ -140,12 +118,12 @@ module _ (mode : ℕ) (x : Stretch) (word : x .state .core .mode ≡ mode) (stra
   word-at (suc i) l = step-at i (omega arith) (word-at i (omega arith)) .word
 
   -- what a user can check of a program and a start
-  pub checked-product : modeOf mode .unsigned ≡ false → x .state .core .a ≡ pos 0 → x .state .sa ≡ false → DotProduct mode x
-  checked-product signed start clear =
+  pub checked-fits : modeOf mode .unsigned ≡ false → x .state .core .a ≡ pos 0 → x .state .sa ≡ false → CallFits mode x
+  checked-fits signed start clear =
       record {
         signed = signed;
         word = word;
         start = start;
         clear = clear;
-        steps = each-listed runs (Adds mode p) (ranOn x .steps) (λ i l. step-at i l (word-at i (omega arith)));
+        steps = each-listed runs (StepFits mode p) (ranOn x .steps) (λ i l. step-at i l (word-at i (omega arith)));
       }

@@ -1,4 +1,6 @@
 pub mod SumExamples
+pub mod StretchExamples
+pub mod CutExamples
 pub mod Boards
 pub mod Works
 pub mod Stretches
@@ -6,4 +8,3 @@ pub mod Exact
 pub mod Calls
 pub mod Checked
 pub mod Contracts
-pub mod StretchExamples

@@ -1,12 +1,12 @@
--- Which operations write A, what a run multiplies for A, and stretches of a dot product, each value worked out by hand from documents 01 and 02. Assumes
+-- Which operations write A, what a run multiplies for A, and calls that fit a dot product, each value worked out by hand from documents 01 and 02. Assumes
 -- nothing.
-use Prim.Native.Nat.{ℕ, zero, suc, _-_, _<_, _≤_}
+use Prim.Native.Nat.{ℕ, zero, suc, _-_, _^_, _<_}
 use mathlib.Core.Bool.{Bool, true, false}
 use mathlib.Core.List.{List, [], _∷_, _++_, map}
 use mathlib.Core.Path.{_≡_, refl}
 use native.Mathlib.Omega.{arith}
-use lib.IntN.{pos}
-use lib.ListN.{getD, take, drop}
+use lib.IntN.{ℤ, pos}
+use lib.ListN.{replicate}
 use Rattle.integers.specs.Bits.{signedOf}
 use Rattle.integers.proofs.Whole.{never}
 use Rattle.accumulator.specs.Mode.{modeOf}
@@ -17,32 +17,31 @@ use Rattle.operations.specs.Encode.{encodeOf}
 use Rattle.operations.specs.declared.operation.Action.the-variants.{Clr, Mpy, Mac, Msc, Ed, Edac, Movsac}
 use Rattle.operations.specs.declared.operation.Operand.the-variants.{Register as Direct}
 use Rattle.operations.specs.declared.operation.PostModification.the-variants.{None as Stays}
-use Rattle.operations.specs.declared.operation.WriteBack.the-variants.{None as NoBack, Register as ToRegister}
+use Rattle.operations.specs.declared.operation.WriteBack.the-variants.{None as NoBack, Memory as ToMemory}
 use Rattle.operations.specs.declared.operation.Operation.{Operation}
-use Rattle.operations.specs.declared.operation.Operation.the-variants.{AddAccumulators, Subtract, Negate, Shift, Lac, Add, Sac}
+use Rattle.operations.specs.declared.operation.Prefetch.the-variants.{Pointer}
+use Rattle.operations.specs.declared.operation.Operation.the-variants.{MacClass as MacOperation, AddAccumulators, Subtract, Negate, Shift, Lac, Add, Sac}
 use Rattle.operations.specs.declared.operation.Operation.the-variants.{SacR, Literal, Load, Store, Repeat, RepeatRegister, Do, DoRegister, EndEarly, SetMode}
 use Rattle.operations.specs.declared.operation.Operation.the-variants.{ClearSaturation}
 use Rattle.program.specs.File.{programOf}
 use Rattle.program.specs.Write.{fileOf}
-use Rattle.state.proofs.Made.{_but_, reg, by, flags}
+use Rattle.state.proofs.Made.{_but_, reg, inA, inB, at, due, by, flags, one}
 use Rattle.machine.specs.Control.{controlOf}
 use Rattle.machine.proofs.CallExamples.{refused}
 use Rattle.engine.specs.Run.{Result}
+use Rattle.engine.specs.Run.Stop.{ended}
 use Rattle.engine.specs.Engine.{Engine}
+use Rattle.engine.specs.declared.ending.Ending.the-variants.{Trap}
 use Rattle.engine.specs.Holds.{holds}
 use Rattle.engine.specs.Call.{runOf}
 use Rattle.engine.specs.Steps.{firstSteps}
 use Rattle.engine.proofs.Opened.{engine}
-use Rattle.engine.proofs.RunExamples.{plain, memory, start, minus, bare}
+use Rattle.engine.proofs.RunExamples.{trapping, plain, memory, start, minus, bare}
 use Rattle.engine.proofs.Steps.{transition, each-listed}
-use Rattle.combine.specs.Boards.{noBoard}
-use Rattle.combine.specs.Dot.{Pair, dotOf, writesA, addsToA, pairOf, pairsIn, Stretch, ranOn, pairsOn, Adds, DotProduct, isStray, holdsStray}
-use Rattle.combine.specs.Call.{Cut, HandsOver}
-use Rattle.combine.proofs.SumExamples.{combined, board, sum}
+use Rattle.combine.specs.Dot.{Pair, dotOf, writesA, addsToA, pairOf, pairsIn, BoardCall, ranOn, pairsOn, StepFits, CallFits, isStray, holdsStray}
+use Rattle.combine.proofs.SumExamples.{board, sum}
 use Rattle.combine.proofs.Stretches.{runOn}
-use Rattle.combine.proofs.Calls.{combine-accepted}
-use Rattle.combine.proofs.Checked.{checked-product}
-use Rattle.combine.proofs.Contracts.{Summed}
+use Rattle.combine.proofs.Checked.{checked-fits}
 
 -- ---- operations
 
@@ -102,7 +101,7 @@ straying = (refl, refl, refl, refl, refl)
 
 -- ---- products
 
-abbrev pair : ℕ → ℕ → Pair
+abbrev pub pair : ℕ → ℕ → Pair
 pair m n = record { m = m; n = n }
 
 -- both words are signed: 3 × -2, -32,768 × -32,768, -1 × 32,767; fractional mode doubles
@@ -114,60 +113,101 @@ products :
 unfolding dotOf productOf readOf signedOf
 products = (refl, refl, refl, refl)
 
--- ---- a stretch
+-- it is not reduced to 40 bits: 512 squares of -32,768 are 2^40 in fractional mode
+unlimited : dotOf false (replicate 512 (pair 32768 32768)) ≡ pos (2 ^ 40)
+unfolding dotOf productOf readOf signedOf
+unlimited = refl
+
+-- ---- calls
 
 -- the file of a program
 abbrev encoded : List Operation → List ℕ
 encoded [] = []
 encoded (o ∷ p) = encodeOf o ++ encoded p
 
-abbrev file : List Operation → List ℕ
+abbrev pub file : List Operation → List ℕ
 file p = fileOf (encoded p)
 
--- a call for a run with all that it comes to opened
-unfoldable call : Stretch → Result Engine
+-- what a board's call comes to, opened, and what its steps multiplied
+unfoldable pub opened : BoardCall → Result Engine
 unfolding runOf refused fileOf engine firstSteps pairsIn pairOf writesA addsToA encodeOf
-call x = ranOn x
+opened x = ranOn x
 
--- W4 × W5 to B, the mode word once more, W4 × W5 added to A twice, with B stored to W13; another W5, both flags cleared, W5 × W4 added to A
+-- W4 × W5 to B, the mode word once more, W4 × W5 added to A twice; another W5, both flags cleared, W5 × W4 added to A
 abbrev lively : List Operation
 lively =
     bare Mpy B 4 5 NoBack
-    ∷ SetMode 0x41
+    ∷ SetMode 0x81
     ∷ Repeat 1
-    ∷ bare Mac A 4 5 ToRegister
+    ∷ bare Mac A 4 5 NoBack
     ∷ Literal 5 7
     ∷ ClearSaturation
     ∷ bare Mac A 5 4 NoBack
     ∷ []
 
--- W4 is 3, W5 is -2; mode word 41 hex: SATB, integer; SB is set
-abbrev first : ℕ → Stretch
+-- W4 is 3, W5 is -2; mode word 81 hex: SATA with ACCSAT 0, integer; SB is set
+abbrev pub first : ℕ → BoardCall
 first budget =
     record {
       file = file lively;
       settings = plain;
-      state = start but by 0x41 but flags false false false true but reg 4 3 but reg 5 65534;
+      state = start but by 0x81 but flags false false false true but reg 4 3 but reg 5 65534;
       memory = memory;
       budget = budget;
     }
 
--- W5 × W4 of 7 and 3 alone
-abbrev second : Stretch
+-- W5 × W4 of 7 and 3, begun where one run of a REPEAT is left
+abbrev pub second : BoardCall
 second =
     record {
-      file = file (bare Mac A 5 4 NoBack ∷ []);
+      file = file (Repeat 1 ∷ bare Mac A 5 4 NoBack ∷ []);
       settings = plain;
-      state = start but by 0x41 but reg 4 3 but reg 5 7;
+      state = start but by 0x81 but at 1 but due 1 but reg 4 3 but reg 5 7;
       memory = memory;
       budget = 9;
     }
 
 -- a call that is refused: its file is empty
-abbrev none : Stretch
-none = record { file = []; settings = plain; state = start but by 0x41; memory = memory; budget = 9 }
+abbrev pub none : BoardCall
+none = record { file = []; settings = plain; state = start but by 0x81; memory = memory; budget = 9 }
 
--- each repeat is a pair, the product for B is none; -6 - 6 + 21 is 9. With 5 steps the last is not made
+-- W4 × W5 added to A with both words read on and B stored to memory, and W6 := 1, in a loop of which two passes are left
+abbrev looped : List Operation
+looped =
+    Do 5 2
+    ∷ MacOperation (record { action = Mac; target = A; m = 4; n = 5; x = Pointer 8 4; xto = 4; y = Pointer 10 4; yto = 5; back = ToMemory })
+    ∷ Literal 6 1
+    ∷ []
+
+-- mode word 72 hex: SATB, SATDW, ACCSAT, RND, fractional. OA, OB and SB are set, B is 3 × 65,536, W13 points to word 3; all traps on
+abbrev pub around : BoardCall
+around =
+    record {
+      file = file looped;
+      settings = trapping 0x700;
+      state =
+          start but by 0x72 but at 1 but one 0 2 but inB (pos 196608) but flags true true false true
+          but reg 4 3 but reg 5 65534 but reg 8 0x1000 but reg 10 0x1008 but reg 13 0x1006;
+      memory = memory;
+      budget = 9;
+    }
+
+-- -32,768 squared is 2^31: trap 6, whose step is complete. Another memory
+abbrev pub trapped : BoardCall
+trapped =
+    record {
+      file = file (bare Mac A 4 4 NoBack ∷ Literal 0 1 ∷ []);
+      settings = trapping 0x400;
+      state = start but by 0x72 but reg 4 32768;
+      memory = 1 ∷ 2 ∷ 3 ∷ 4 ∷ 5 ∷ [];
+      budget = 9;
+    }
+
+-- no step at all
+abbrev pub idle : BoardCall
+idle = record { file = file (Literal 0 1 ∷ []); settings = plain; state = start but by 0x72; memory = memory; budget = 0 }
+
+-- each repeat is a pair, the product for B is none; -6 - 6 + 21 is 9, and with 5 steps the last is not made
 pairs :
     (pairsOn (first 99) ≡ pair 3 65534 ∷ pair 3 65534 ∷ pair 7 3 ∷ [])
     × (ranOn (first 99) .machine .state .core .a ≡ pos 9)
@@ -175,156 +215,116 @@ pairs :
     × (ranOn (first 5) .machine .state .core .a ≡ minus 12)
     × (pairsOn second ≡ pair 7 3 ∷ [])
     × (pairsOn none ≡ [])
-unfolding call
+unfolding opened
 pairs = (refl, refl, refl, refl, refl, refl)
 
--- ---- stretches of a dot product
+-- -12 + 20,800: the words that the loop's first pass reads are multiplied by its second. A trap 6's step is one of them
+looped-pairs :
+    (pairsOn around ≡ pair 3 65534 ∷ pair 100 104 ∷ [])
+    × (ranOn around .machine .state .core .a ≡ pos 20788)
+    × (ranOn around .machine .memory ≡ 100 ∷ 101 ∷ 102 ∷ 3 ∷ 3 ∷ 105 ∷ 106 ∷ 107 ∷ [])
+    × (pairsOn trapped ≡ pair 32768 32768 ∷ [])
+    × (ranOn trapped .stop ≡ ended (Trap 6))
+    × (pairsOn idle ≡ [])
+unfolding opened
+looped-pairs = (refl, refl, refl, refl, refl, refl)
 
--- a step of one of these runs
-abbrev fits : Stretch → ℕ → Type 0
-fits x i = Adds 0x41 (programOf (x .file)) (transition (runOn x) i)
+-- ---- calls that fit
+
+-- step i of a call fits
+abbrev fits : ℕ → BoardCall → ℕ → Type 0
+fits mode x i = StepFits mode (programOf (x .file)) (transition (runOn x) i)
 
 -- SB set, B written, the same mode word set, flags cleared while SA is clear: none of it matters
-first-fits : (i : ℕ) → i < 8 → fits (first 99) i
-unfolding call
-first-fits zero l = record { kind = λ e. never e; word = refl; flag = λ e. never e }
-first-fits (suc zero) l = record { kind = λ e. never e; word = refl; flag = λ e. never e }
-first-fits (suc (suc zero)) l = record { kind = λ e. never e; word = refl; flag = λ e. never e }
-first-fits (suc (suc (suc zero))) l = record { kind = λ e. refl; word = refl; flag = λ e. never e }
-first-fits (suc (suc (suc (suc zero)))) l = record { kind = λ e. refl; word = refl; flag = λ e. never e }
-first-fits (suc (suc (suc (suc (suc zero))))) l = record { kind = λ e. never e; word = refl; flag = λ e. never e }
-first-fits (suc (suc (suc (suc (suc (suc zero)))))) l = record { kind = λ e. never e; word = refl; flag = λ e. never e }
-first-fits (suc (suc (suc (suc (suc (suc (suc zero))))))) l = record { kind = λ e. refl; word = refl; flag = λ e. never e }
-first-fits (suc (suc (suc (suc (suc (suc (suc (suc i)))))))) l = absurd (omega arith)
+first-steps : (i : ℕ) → i < 8 → fits 0x81 (first 99) i
+unfolding opened
+first-steps zero l = record { kind = λ e. never e; word = refl; flag = λ e. never e }
+first-steps (suc zero) l = record { kind = λ e. never e; word = refl; flag = λ e. never e }
+first-steps (suc (suc zero)) l = record { kind = λ e. never e; word = refl; flag = λ e. never e }
+first-steps (suc (suc (suc zero))) l = record { kind = λ e. refl; word = refl; flag = λ e. never e }
+first-steps (suc (suc (suc (suc zero)))) l = record { kind = λ e. refl; word = refl; flag = λ e. never e }
+first-steps (suc (suc (suc (suc (suc zero))))) l = record { kind = λ e. never e; word = refl; flag = λ e. never e }
+first-steps (suc (suc (suc (suc (suc (suc zero)))))) l = record { kind = λ e. never e; word = refl; flag = λ e. never e }
+first-steps (suc (suc (suc (suc (suc (suc (suc zero))))))) l = record { kind = λ e. refl; word = refl; flag = λ e. never e }
+first-steps (suc (suc (suc (suc (suc (suc (suc (suc i)))))))) l = absurd (omega arith)
 
-second-fits : (i : ℕ) → i < 1 → fits second i
-unfolding call
-second-fits zero l = record { kind = λ e. refl; word = refl; flag = λ e. never e }
-second-fits (suc i) l = absurd (omega arith)
+-- nor do a loop, reads, write-back to memory, traps and O flags
+around-steps : (i : ℕ) → i < 4 → fits 0x72 around i
+unfolding opened
+around-steps zero l = record { kind = λ e. refl; word = refl; flag = λ e. never e }
+around-steps (suc zero) l = record { kind = λ e. never e; word = refl; flag = λ e. never e }
+around-steps (suc (suc zero)) l = record { kind = λ e. refl; word = refl; flag = λ e. never e }
+around-steps (suc (suc (suc zero))) l = record { kind = λ e. never e; word = refl; flag = λ e. never e }
+around-steps (suc (suc (suc (suc i)))) l = absurd (omega arith)
 
-none-fits : (i : ℕ) → i < 0 → fits none i
-none-fits i l = absurd (omega arith)
+second-steps : (i : ℕ) → i < 1 → fits 0x81 second i
+unfolding opened
+second-steps zero l = record { kind = λ e. refl; word = refl; flag = λ e. never e }
+second-steps (suc i) l = absurd (omega arith)
 
--- a stretch of so many steps that begins as it should
-product : (x : Stretch) (n : ℕ) → ranOn x .steps ≡ n → ((i : ℕ) → i < n → fits x i) → x .state .core .mode ≡ 0x41 → x .state .core .a ≡ pos 0
-    → x .state .sa ≡ false → DotProduct 0x41 x
-unfolding modeOf
-product x n is h word begun clear =
+-- a call of n steps, each of which fits
+by-steps : (mode : ℕ) (x : BoardCall) (n : ℕ) → ranOn x .steps ≡ n → ((i : ℕ) → i < n → fits mode x i) → modeOf mode .unsigned ≡ false
+    → x .state .core .mode ≡ mode → x .state .core .a ≡ pos 0 → x .state .sa ≡ false → CallFits mode x
+by-steps mode x n is h signed word begun clear =
     record {
-      signed = refl;
+      signed = signed;
       word = word;
       start = begun;
       clear = clear;
-      steps = rw is (each-listed (runOn x) (Adds 0x41 (programOf (x .file))) n h);
+      steps = rw is (each-listed (runOn x) (StepFits mode (programOf (x .file))) n h);
     }
 
--- by the check of its program alone; `lively` holds kind 25 and does not pass it, though its run is a stretch
-second-checked : DotProduct 0x41 second
-unfolding call holds isStray controlOf modeOf
-second-checked = checked-product 0x41 second refl refl refl refl refl
+pub first-fits : CallFits 0x81 (first 99)
+unfolding opened modeOf
+first-fits = by-steps 0x81 (first 99) 8 refl first-steps refl refl refl refl
 
-unchecked : (holdsStray 0x41 lively ≡ true) × (holdsStray 0x41 (SetMode 0x41 ∷ Negate B ∷ Repeat 1 ∷ bare Mac A 5 4 NoBack ∷ []) ≡ false)
-unfolding call holds isStray controlOf
+pub half-fits : CallFits 0x81 (first 5)
+unfolding opened modeOf
+half-fits = by-steps 0x81 (first 5) 5 refl (λ i l. first-steps i (omega arith)) refl refl refl refl
+
+pub second-fits : CallFits 0x81 second
+unfolding opened modeOf
+second-fits = by-steps 0x81 second 1 refl second-steps refl refl refl refl
+
+pub none-fits : CallFits 0x81 none
+unfolding opened modeOf
+none-fits = by-steps 0x81 none 0 refl (λ i l. absurd (omega arith)) refl refl refl refl
+
+pub around-fits : CallFits 0x72 around
+unfolding opened modeOf
+around-fits = by-steps 0x72 around 4 refl around-steps refl refl refl refl
+
+-- by the check of the program alone
+pub trapped-fits : CallFits 0x72 trapped
+unfolding opened holds isStray controlOf modeOf
+trapped-fits = checked-fits 0x72 trapped refl refl refl refl refl
+
+pub idle-fits : CallFits 0x72 idle
+unfolding opened holds isStray controlOf modeOf
+idle-fits = checked-fits 0x72 idle refl refl refl refl refl
+
+-- `lively` holds kind 25 and does not pass it, though its run fits
+unchecked : (holdsStray 0x81 lively ≡ true) × (holdsStray 0x81 (SetMode 0x81 ∷ Negate B ∷ Repeat 1 ∷ bare Mac A 5 4 NoBack ∷ []) ≡ false)
+unfolding opened holds isStray controlOf
 unchecked = (refl, refl)
 
--- ---- one list of pairs, cut in two ways
+-- ---- why each premise
 
-abbrev whole : List Pair
-whole = pair 3 65534 ∷ pair 3 65534 ∷ pair 7 3 ∷ []
+-- a run of p from A with this mode word, W4 and W5 both x: its A, with SA clear at the end, and the sum of its products
+abbrev Ends : List Operation → ℤ → ℕ → ℕ → ℤ → ℤ → Type 0
+Ends p a mode x left dot =
+    let run : BoardCall = record { file = file p; settings = plain; state = start but inA a but by mode but reg 4 x but reg 5 x; memory = memory; budget = 9 } in
+    (ranOn run .machine .state .core .a ≡ left) × (ranOn run .machine .state .sa ≡ false) × (dotOf (modeOf mode .integer) (pairsOn run) ≡ dot)
 
--- on two boards, after the second pair
-abbrev two : ℕ → Stretch
-two zero = first 5
-two (suc i) = second
+abbrev adding : Operation
+adding = bare Mac A 4 5 NoBack
 
-abbrev two-cut : ℕ → ℕ
-two-cut zero = 0
-two-cut (suc zero) = 2
-two-cut (suc (suc i)) = 3
-
--- on three, with two empty stretches
-abbrev three : ℕ → Stretch
-three zero = none
-three (suc zero) = first 99
-three (suc (suc i)) = none
-
-abbrev three-cut : ℕ → ℕ
-three-cut zero = 0
-three-cut (suc zero) = 0
-three-cut (suc (suc i)) = 3
-
-two-parts : Cut whole two-cut two 2
-unfolding call
-two-parts = record { begins = refl; ends = refl; ascends = up; parts = part }
-  where
-    up : (i : ℕ) → i < 2 → two-cut i ≤ two-cut (suc i)
-    up zero l = omega arith
-    up (suc zero) l = omega arith
-    up (suc (suc i)) l = omega arith
-
-    part : (i : ℕ) → i < 2 → pairsOn (two i) ≡ take (two-cut (suc i) - two-cut i) (drop (two-cut i) whole)
-    part zero l = refl
-    part (suc zero) l = refl
-    part (suc (suc i)) l = absurd (omega arith)
-
-three-parts : Cut whole three-cut three 3
-unfolding call
-three-parts = record { begins = refl; ends = refl; ascends = up; parts = part }
-  where
-    up : (i : ℕ) → i < 3 → three-cut i ≤ three-cut (suc i)
-    up zero l = omega arith
-    up (suc zero) l = omega arith
-    up (suc (suc i)) l = omega arith
-
-    part : (i : ℕ) → i < 3 → pairsOn (three i) ≡ take (three-cut (suc i) - three-cut i) (drop (three-cut i) whole)
-    part zero l = refl
-    part (suc zero) l = refl
-    part (suc (suc zero)) l = refl
-    part (suc (suc (suc i))) l = absurd (omega arith)
-
--- what the boards hand over
-two-handed : (i : ℕ) → i < 2 → HandsOver 0x41 (getD (board (minus 12) false ∷ board (pos 21) false ∷ []) i noBoard) (two i)
-unfolding call
-two-handed zero l = record { product = product (first 5) 5 refl (λ i l. first-fits i (omega arith)) refl refl refl; left = refl }
-two-handed (suc zero) l = record { product = product second 1 refl second-fits refl refl refl; left = refl }
-two-handed (suc (suc i)) l = absurd (omega arith)
-
-three-handed : (i : ℕ) → i < 3 → HandsOver 0x41 (getD (board (pos 0) false ∷ board (pos 9) false ∷ board (pos 0) false ∷ []) i noBoard) (three i)
-unfolding call
-three-handed zero l = record { product = product none 0 refl none-fits refl refl refl; left = refl }
-three-handed (suc zero) l = record { product = product (first 99) 8 refl first-fits refl refl refl; left = refl }
-three-handed (suc (suc zero)) l = record { product = product none 0 refl none-fits refl refl refl; left = refl }
-three-handed (suc (suc (suc i))) l = absurd (omega arith)
-
--- both calls give -12 + 21 = 9 = 0 + 9 + 0, the dot product
-by-two : Summed 0x41 whole (record { value = pos 9; overflow = false; saturation = false })
-unfolding combined
-by-two =
-    record {
-      boards = board (minus 12) false ∷ board (pos 21) false ∷ [];
-      count = 2;
-      cut = two-cut;
-      stretch = two;
-      answer = sum (pos 9) false false;
-      combines = combine-accepted (board (minus 12) false ∷ board (pos 21) false ∷ []) 2 0x41 refl;
-      parts = two-parts;
-      handed = two-handed;
-      is = refl;
-      clear = refl;
-    }
-
-by-three : Summed 0x41 whole (record { value = pos 9; overflow = false; saturation = false })
-unfolding combined
-by-three =
-    record {
-      boards = board (pos 0) false ∷ board (pos 9) false ∷ board (pos 0) false ∷ [];
-      count = 3;
-      cut = three-cut;
-      stretch = three;
-      answer = sum (pos 9) false false;
-      combines = combine-accepted (board (pos 0) false ∷ board (pos 9) false ∷ board (pos 0) false ∷ []) 3 0x41 refl;
-      parts = three-parts;
-      handed = three-handed;
-      is = refl;
-      clear = refl;
-    }
+-- from A = 5; CLR of A between two products; doubled after another mode word; read as unsigned with US 1; SA cleared after the sum was limited to 2^31 - 1
+differ :
+    Ends (adding ∷ []) (pos 5) 0x01 3 (pos 14) (pos 9)
+    × Ends (adding ∷ bare Clr A 0 0 NoBack ∷ adding ∷ []) (pos 0) 0x01 3 (pos 9) (pos 18)
+    × Ends (adding ∷ SetMode 0 ∷ adding ∷ []) (pos 0) 0x01 3 (pos 27) (pos 18)
+    × Ends (adding ∷ []) (pos 0) 0x1001 65535 (pos 4294836225) (pos 1)
+    × Ends (adding ∷ adding ∷ ClearSaturation ∷ []) (pos 0) 0x81 32768 (pos (2 ^ 31 - 1)) (pos (2 ^ 31))
+unfolding opened dotOf productOf readOf signedOf modeOf
+differ = ((refl, refl, refl), (refl, refl, refl), (refl, refl, refl), (refl, refl, refl), (refl, refl, refl))

@@ -5,10 +5,8 @@ use mathlib.Core.List.{List, [], _∷_, _++_}
 use mathlib.Core.Path.{_≡_, refl, sym, ap, _∙_, subst}
 use native.Mathlib.Nat.{le-refl}
 use native.Mathlib.Omega.{arith}
-use borrow.Author.Tests.{eqb-true}
-use lib.Dec.{eqb}
 use lib.IntN.{ℤ, _+ℤ_, +ℤ-idl, +ℤ-idr, +ℤ-assoc}
-use Rattle.integers.proofs.Whole.{by-test, same-test, neither, never}
+use Rattle.integers.proofs.Whole.{same-test, neither, never}
 use Rattle.accumulator.specs.Mode.{modeOf}
 use Rattle.accumulator.specs.Limit.{hasLeft, writeOf}
 use Rattle.accumulator.specs.declared.mode.Mode.{Mode}
@@ -25,14 +23,14 @@ use Rattle.effects.specs.declared.effect.Exact.{Exact}
 use Rattle.effects.specs.declared.effect.Exact.the-variants.{Keep, Result as ExactResult}
 use Rattle.machine.specs.Write.{settleOf}
 use Rattle.machine.specs.Control.{controlOf, clears, stateControlled}
-use Rattle.machine.specs.Step.{Step, operationAt, stateAfter, completed, stepped}
+use Rattle.machine.specs.Step.{operationAt, stateAfter}
 use Rattle.machine.proofs.Order.{controlled-frame}
-use Rattle.engine.specs.Run.{Turn, Result}
-use Rattle.engine.specs.Engine.{Engine, turnOf, engineTurn, engineDone}
+use Rattle.engine.specs.Run.{Result}
+use Rattle.engine.specs.Engine.{Engine, engineTurn, engineDone}
 use Rattle.engine.specs.Call.{runOf}
 use Rattle.engine.specs.Steps.{Transition, firstSteps}
-use Rattle.engine.proofs.Steps.{Leads, Stepwise, call-stepwise, call-listed, transition, step-listed}
-use Rattle.combine.specs.Dot.{Pair, pairProduct, dotOf, writesA, addsToA, pairOf, executed, pairsIn, Stretch, ranOn, pairsOn, Adds, DotProduct}
+use Rattle.engine.proofs.Steps.{Leads, turn-completes, Stepwise, call-stepwise, call-listed, transition, step-listed}
+use Rattle.combine.specs.Dot.{Pair, pairProduct, dotOf, writesA, addsToA, pairOf, executed, pairsIn, BoardCall, ranOn, pairsOn, StepFits, CallFits}
 use Rattle.combine.proofs.Works.{Meets, work-meets, adds-onward}
 
 -- ---- lists of pairs
@@ -115,35 +113,32 @@ module _ (mode : ℕ) (signed : modeOf mode .unsigned ≡ false) (p : List Opera
   step-adds : (x y : Engine) → x .state .core .mode ≡ mode → isListed (operationAt p (x .state .core .pc)) ≡ true
       → (writesA (operationAt p (x .state .core .pc)) ≡ true → addsToA (operationAt p (x .state .core .pc)) ≡ true)
       → Leads (engineTurn p settings x) y → Added x y
-  unfolding engineTurn stepped completed
-  step-adds x y word listed kind =
+  step-adds x y word listed kind leads =
       let c = x .state .core in
       let m = modeOf (c .mode) in
       let o = operationAt p (c .pc) in
       let work = workOf settings m o c (x .memory) in
-      let settled = settleOf (settings .traps) m (work .effect .exact) (stateAfter m work (x .state)) in
-      by-test (λ (r : Step). Leads (turnOf r) y → Added x y) (eqb (work .effect .trap) 0)
-      (λ e.
-      let meets = work-meets settings m (rw word signed) c (x .memory) o listed kind (eqb-true (work .effect .trap) 0 e) in
-      let exact : Meets _ (addsToA o) (work .effect .exact) = subst (λ (k : ℕ). Meets (c .a +ℤ pairProduct (modeOf k .integer) (pairOf o (c .w))) (addsToA o) (work .effect .exact)) word meets in
-      let a = settled-a (settings .traps) m (work .effect .exact) (stateAfter m work (x .state)) _ (addsToA o) exact in
-      by-test (λ (u : Turn Engine). Leads u y → Added x y) (eqb (settled .trap) 0)
-      (λ f. controlled-adds x y (settled .state) _ a) (λ f. controlled-adds x y (settled .state) _ a))
-      (λ e l. absurd l)
+      let e = work .effect .exact in
+      let s = stateAfter m work (x .state) in
+      let (none, is) = turn-completes p settings x y leads in
+      let meets : Meets (c .a +ℤ pairProduct integer (pairOf o (c .w))) (addsToA o) e =
+      subst (λ (k : ℕ). Meets (c .a +ℤ pairProduct (modeOf k .integer) (pairOf o (c .w))) (addsToA o) e) word
+      (work-meets settings m (rw word signed) c (x .memory) o listed kind none) in
+      controlled-adds x y (settleOf (settings .traps) m e s .state) _ (settled-a (settings .traps) m e s _ (addsToA o) meets) is
 
 -- ---- a run
 
 -- the call of a stretch under a budget
-abbrev pub runOn : Stretch → ℕ → Result Engine
+abbrev pub runOn : BoardCall → ℕ → Result Engine
 runOn x n = runOf (x .file) (x .settings) (x .state) (x .memory) n
 
 -- it goes by turns of the engine
-pub stretch-stepwise : (x : Stretch)
+pub stretch-stepwise : (x : BoardCall)
     → let p = programOf (x .file) in
     Stepwise (engineDone p) (engineTurn p (x .settings)) (record { state = x .state; memory = x .memory }) (runOn x) (x .budget)
 stretch-stepwise x = call-stepwise (x .file) (x .settings) (x .state) (x .memory) (x .budget)
 
-module _ (mode : ℕ) (x : Stretch) (h : DotProduct mode x) where
+module _ (mode : ℕ) (x : BoardCall) (h : CallFits mode x) where
   abbrev p : List Operation
   p = programOf (x .file)
 
@@ -154,7 +149,7 @@ module _ (mode : ℕ) (x : Stretch) (h : DotProduct mode x) where
   made = ranOn x .steps
 
   -- step i is one of a dot product
-  step-fits : (i : ℕ) → i < made → Adds mode p (transition runs i)
+  step-fits : (i : ℕ) → i < made → StepFits mode p (transition runs i)
   step-fits i l = h .steps (transition runs i) (step-listed runs made i l)
 
   -- the mode word after i steps

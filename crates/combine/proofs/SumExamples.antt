@@ -12,6 +12,7 @@ use Rattle.accumulator.specs.Mode.{modeOf, isGoodMode, saturates}
 use Rattle.accumulator.specs.Limit.{limitBits, hasLeft, keptOf, overflows, writeOf, isAccumulator}
 use Rattle.engine.proofs.RunExamples.{minus}
 use Rattle.combine.specs.Boards.{areAccumulators, anySet, added, addedUp, combinedOf, combineRefusal, combineOf}
+use Rattle.combine.specs.Call.{Combines}
 use Rattle.combine.specs.declared.board.Board.{Board}
 use Rattle.combine.specs.declared.call.Combined.{Combined}
 use Rattle.combine.specs.declared.call.Combined.the-variants.{Sum, Refused}
@@ -98,3 +99,13 @@ refusals :
     × (combined (three (minus (2 ^ 39)) (pos (2 ^ 39 - 1)) (pos (2 ^ 39))) 2 0x01 ≡ sum (minus 1) false false)
 unfolding combined
 refusals = (refl, refl, refl, refl, refl, refl, refl, refl)
+
+-- ---- what the contract says of these calls
+
+told : (r : Combined) → Combines (board (pos 1) false ∷ board (pos 2) false ∷ []) 2 0x01 r → r ≡ sum (pos 3) false false
+unfolding combined
+told r h = h .answer
+
+told-refused : (r : Combined) → Combines [] 1 0x04 r → r ≡ Refused 13
+unfolding combined
+told-refused r h = h .answer

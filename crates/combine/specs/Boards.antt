@@ -18,11 +18,11 @@ use Rattle.combine.specs.declared.call.Combined.the-variants.{Sum, Refus
 
 -- ---- the boards
 
--- A and SA of a state
+-- what a board hands over: A and SA of the state that its run ended with
 abbrev pub boardOf : State → Board
 boardOf s = record { a = s .core .a; sa = s .sa }
 
--- of no run
+-- the board of no run
 abbrev pub noBoard : Board
 noBoard = record { a = pos 0; sa = false }
 

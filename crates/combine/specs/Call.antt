@@ -7,22 +7,22 @@ use lib.ListN.{length, take, drop}
 use Rattle.accumulator.specs.Mode.{modeOf}
 use Rattle.accumulator.specs.declared.limit.Accumulator.{Accumulator}
 use Rattle.combine.specs.Boards.{boardOf, boardAt, combineOf}
-use Rattle.combine.specs.Dot.{Pair, dotOf, Stretch, ranOn, pairsOn, DotProduct}
+use Rattle.combine.specs.Dot.{Pair, dotOf, BoardCall, ranOn, pairsOn, CallFits}
 use Rattle.combine.specs.declared.board.Board.{Board}
 use Rattle.combine.specs.declared.call.Combined.{Combined}
 use Rattle.combine.specs.declared.call.Combined.the-variants.{Sum}
 
--- the pairs `whole`, cut into n stretches at ascending points: stretch i multiplies those from cut i up to cut i + 1, none where both are the same
-pub record Cut (whole : List Pair) (cut : ℕ → ℕ) (stretch : ℕ → Stretch) (n : ℕ) : Type 0 where
+-- the pairs `whole`, cut into n stretches at ascending points: call i multiplies those from cut i up to cut i + 1, none where both are the same
+pub record Cut (whole : List Pair) (cut : ℕ → ℕ) (call : ℕ → BoardCall) (n : ℕ) : Type 0 where
   pub begins : cut 0 ≡ 0
   pub ends : cut n ≡ length whole
   pub ascends : (i : ℕ) → i < n → cut i ≤ cut (suc i)
-  pub parts : (i : ℕ) → i < n → pairsOn (stretch i) ≡ take (cut (suc i) - cut i) (drop (cut i) whole)
+  pub parts : (i : ℕ) → i < n → pairsOn (call i) ≡ take (cut (suc i) - cut i) (drop (cut i) whole)
 
--- a board hands over what its stretch of a dot product by this mode word ended with
-pub record HandsOver (mode : ℕ) (board : Board) (x : Stretch) : Type 0 where
-  pub product : DotProduct mode x
-  pub left : board ≡ boardOf (ranOn x .machine .state)
+-- a board hands over what its call, which fits a dot product by this mode word, ended with
+pub record HandsOver (mode : ℕ) (board : Board) (x : BoardCall) : Type 0 where
+  pub fits : CallFits mode x
+  pub is : board ≡ boardOf (ranOn x .machine .state)
 
 -- what the call's answer is promised to be
 pub record Combines (boards : List Board) (count mode : ℕ) (r : Combined) : Type 0 where
@@ -30,6 +30,6 @@ pub record Combines (boards : List Board) (count mode : ℕ) (r : Combined) : Ty
   pub answer : r ≡ combineOf boards count mode
   -- the exact sum: each of the boards ran its stretch of a dot product, however it was cut; if the combined SA is clear, the combined A is the sum of all products
   pub exact :
-      (whole : List Pair) (cut : ℕ → ℕ) (stretch : ℕ → Stretch) → Cut whole cut stretch count →
-      ((i : ℕ) → i < count → HandsOver mode (boardAt boards i) (stretch i)) → (sum : Accumulator) → r ≡ Sum sum → sum .saturation ≡ false →
+      (whole : List Pair) (cut : ℕ → ℕ) (call : ℕ → BoardCall) → Cut whole cut call count →
+      ((i : ℕ) → i < count → HandsOver mode (boardAt boards i) (call i)) → (sum : Accumulator) → r ≡ Sum sum → sum .saturation ≡ false →
       sum .value ≡ dotOf (modeOf mode .integer) whole

@@ -1,4 +1,4 @@
--- A dot product of signed words, and a board's run as a stretch of it: the pairs of words that its steps multiplied for A, from its steps alone.
+-- A dot product of signed words, and a board's run of a stretch of it: the pairs of words that the steps of the run multiplied for A.
 use Prim.Native.Nat.{ℕ, _+_, _*_, _%_, _/_}
 use mathlib.Core.Bool.{Bool, true, false, cond, not, _&&_, _||_}
 use mathlib.Core.List.{List, [], _∷_, List·Memᴰ}
@@ -76,10 +76,10 @@ unfoldable pub pairsIn : List Operation → List (Transition Engine) → List Pa
 pairsIn p [] = []
 pairsIn p (t ∷ l) = cond (addsToA (executed p t)) (pairOf (executed p t) (t .from .state .core .w) ∷ pairsIn p l) (pairsIn p l)
 
--- ---- a stretch
+-- ---- a board's call
 
 -- what a board runs: a call for a run
-pub record Stretch : Type 0 where
+pub record BoardCall : Type 0 where
   pub file : List ℕ
   pub settings : Settings
   pub state : State
@@ -87,33 +87,34 @@ pub record Stretch : Type 0 where
   pub budget : ℕ
 
 -- what the call comes to
-abbrev pub ranOn : Stretch → Result Engine
+abbrev pub ranOn : BoardCall → Result Engine
 ranOn x = runOf (x .file) (x .settings) (x .state) (x .memory) (x .budget)
 
 -- its steps
-abbrev pub stepsOn : Stretch → List (Transition Engine)
+abbrev pub stepsOn : BoardCall → List (Transition Engine)
 stepsOn x = callSteps (x .file) (x .settings) (x .state) (x .memory) (x .budget)
 
 -- what it multiplied for A
-abbrev pub pairsOn : Stretch → List Pair
+abbrev pub pairsOn : BoardCall → List Pair
 pairsOn x = pairsIn (programOf (x .file)) (stepsOn x)
 
--- a step of a dot product by a mode word
-pub record Adds (mode : ℕ) (p : List Operation) (t : Transition Engine) : Type 0 where
+-- a step that fits a dot product by a mode word
+pub record StepFits (mode : ℕ) (p : List Operation) (t : Transition Engine) : Type 0 where
   -- if it writes A, it is kind 3
   pub kind : writesA (executed p t) ≡ true → addsToA (executed p t) ≡ true
   -- the one mode word is kept
   pub word : t .to .state .core .mode ≡ mode
-  -- it does not clear SA
+  -- SA, if it was set, is not cleared
   pub flag : t .from .state .sa ≡ true → t .to .state .sa ≡ true
 
--- a stretch of a dot product of signed words: US 0; from A = 0 with SA clear and this mode word; each step as above. How it ends is not asked
-pub record DotProduct (mode : ℕ) (x : Stretch) : Type 0 where
+-- a call that fits a dot product of signed words: US 0 (with US 2 or 3 it is refused); from A = 0, with SA clear and this mode word; each step fits. How it
+-- ends is not asked
+pub record CallFits (mode : ℕ) (x : BoardCall) : Type 0 where
   pub signed : modeOf mode .unsigned ≡ false
   pub word : x .state .core .mode ≡ mode
   pub start : x .state .core .a ≡ pos 0
   pub clear : x .state .sa ≡ false
-  pub steps : (t : Transition Engine) → List·Memᴰ t (stepsOn x) → Adds mode (programOf (x .file)) t
+  pub steps : (t : Transition Engine) → List·Memᴰ t (stepsOn x) → StepFits mode (programOf (x .file)) t
 
 -- ---- a check of the program alone, each operation reached or not
 

@@ -27,9 +27,12 @@ fn refusal(boards: [Board; 8], count: usize, mode: u16) -> u8
     if Mode::is_good(mode) { 0 } else { 7 }
 }
 
-// The sum of the first `count` boards' A, two to eight, by a mode word: each is added in order, from 0, through the accumulator rules for A. SA is also set
-// where a board's is. Boards past the count are not looked at. Where SA is clear and each board ran its stretch of one dot product by this mode word, the sum
-// is that of all its products. Refused: 13 for another count, 14 for an A beyond 40 bits, 7 for a bad mode word.
+// The sum of the first `count` boards' A, two to eight, by a mode word: each is added in order, from 0, through the accumulator rules for A. SA is set
+// where a sum left the limits or a board's SA is set. Boards past the count are not looked at. Refused: 13 for another count, 14 for an A beyond 40 bits, 7
+// for a bad mode word.
+// Where SA is clear, the sum is the exact sum of all products that the boards made, if each began with A = 0, SA clear and this mode word, US 0; wrote A by
+// MAC (kind 3) alone, not even by CLR; set no other mode word; and never cleared SA. (`restarted()` keeps A and SA.) What a board did not come to, because
+// its call was refused, spent or trapped, is not in the sum: look at each one's ending.
 pub fn combine(boards: [Board; 8], count: usize, mode: u16) -> Combined
     ensures { λ r. ⌜ Combines boards count mode r ⌝ }
 {

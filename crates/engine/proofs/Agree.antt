@@ -112,7 +112,7 @@ module _ (m : Mode) where
   write-flags B r c e = inr (saturation-only (accumulatorAt (cleared c) B) m B r refl ∙ e)
 
   -- and a flag that was set stays
-  settle-stays : (traps : ℕ) (t : Target) (e : Exact) (s : State) → SetIn t s → SetIn t (settleOf traps m e s .state)
+  pub settle-stays : (traps : ℕ) (t : Target) (e : Exact) (s : State) → SetIn t s → SetIn t (settleOf traps m e s .state)
   unfolding settleOf
   settle-stays traps t Keep s h = h
   settle-stays traps A (ExactResult A r) s h = saturation-stays (accumulatorAt s A) m A r h

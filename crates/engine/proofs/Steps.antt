@@ -6,10 +6,11 @@ use mathlib.Core.List.{Memᴰ·append-left, Memᴰ·append-right}
 use mathlib.Core.Logic.{⊎-elim}
 use mathlib.Core.Path.{_≡_, refl, sym, ap, _∙_, subst}
 use native.Mathlib.Omega.{arith}
-use borrow.Author.Tests.{ltb-true, ltb-false}
-use lib.Dec.{ltb}
+use borrow.Author.Tests.{eqb-true, ltb-true, ltb-false}
+use lib.Dec.{eqb, ltb}
 use lib.ListN.{length, length-append, List·getD-eq-default}
 use Rattle.integers.proofs.Whole.{by-test}
+use Rattle.accumulator.specs.Mode.{modeOf}
 use Rattle.operations.specs.Listed.{isListed}
 use Rattle.operations.specs.declared.operation.Operation.{Operation}
 use Rattle.operations.specs.declared.operation.Operation.the-variants.{EndEarly}
@@ -17,13 +18,16 @@ use Rattle.program.specs.Answer.{ifAccepted}
 use Rattle.program.specs.File.{programOf}
 use Rattle.state.specs.declared.settings.Settings.{Settings}
 use Rattle.state.specs.declared.state.State.{State}
-use Rattle.machine.specs.Step.{operationAt}
+use Rattle.effects.specs.Operations.{workOf}
+use Rattle.machine.specs.Write.{settleOf, valueWord, putMemory}
+use Rattle.machine.specs.Control.{controlOf, stateControlled}
+use Rattle.machine.specs.Step.{Step, operationAt, stateAfter, completed, stepped}
 use Rattle.machine.specs.Single.{callRefusal}
 use Rattle.machine.proofs.Calls.{call-file}
 use Rattle.engine.specs.Run.{Turn, Result, after, run}
 use Rattle.engine.specs.Run.Stop.{ended}
 use Rattle.engine.specs.Run.Turn.{over, last, next}
-use Rattle.engine.specs.Engine.{engineTurn, engineDone, engineRun}
+use Rattle.engine.specs.Engine.{Engine, turnOf, engineTurn, engineDone, engineRun}
 use Rattle.engine.specs.Call.{refused, runOf}
 use Rattle.engine.specs.Steps.{Transition, firstSteps}
 use Rattle.engine.proofs.Runs.{run-done}
@@ -154,6 +158,31 @@ call-stepwise file settings s memory budget = go (callRefusal file settings s (l
         (λ b. ifAccepted n (engineRun p settings b s memory) (refused n s memory)) budget
     go zero = run-stepwise (engineDone p) (engineTurn p settings) (record { state = s; memory = memory }) budget
     go (suc n) = record { begins = refl; leads = λ i l. absurd (omega arith); ends = refl }
+
+-- at x there is no trap of 1 to 4, and y is what the step completes
+abbrev pub Completes : List Operation → Settings → Engine → Engine → Type 0
+Completes p settings x y =
+    let s = x .state in
+    let m = modeOf (s .core .mode) in
+    let o = operationAt p (s .core .pc) in
+    let work = workOf settings m o (s .core) (x .memory) in
+    let settled = settleOf (settings .traps) m (work .effect .exact) (stateAfter m work s) in
+    let memory = putMemory (work .effect .place) (valueWord m (work .effect .value)) (x .memory) in
+    (work .effect .trap ≡ 0) × (record { state = stateControlled p (controlOf o) (settled .state); memory = memory } ≡ y)
+
+-- a turn of the engine that leads to y
+pub turn-completes : (p : List Operation) (settings : Settings) (x y : Engine) → Leads (engineTurn p settings x) y → Completes p settings x y
+unfolding engineTurn stepped completed
+turn-completes p settings x y =
+    let s = x .state in
+    let m = modeOf (s .core .mode) in
+    let work = workOf settings m (operationAt p (s .core .pc)) (s .core) (x .memory) in
+    let settled = settleOf (settings .traps) m (work .effect .exact) (stateAfter m work s) in
+    by-test (λ (r : Step). Leads (turnOf r) y → Completes p settings x y) (eqb (work .effect .trap) 0)
+    (λ e.
+    let none = eqb-true (work .effect .trap) 0 e in
+    by-test (λ (u : Turn Engine). Leads u y → Completes p settings x y) (eqb (settled .trap) 0) (λ f is. (none, is)) (λ f is. (none, is)))
+    (λ e l. absurd l)
 
 -- a call that makes a step is accepted, and so every operation at a pc is listed
 pub call-listed : (file : List ℕ) (settings : Settings) (s : State) (memory : List ℕ) (budget i : ℕ) → i < runOf file settings s memory budget .steps

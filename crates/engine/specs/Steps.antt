@@ -12,7 +12,7 @@ pub record Transition (S : Type 0) : Type 0 where
   pub from : S
   pub to : S
 
--- the first n steps of a run that comes to `runs b` under a budget of b: step i leads from the machine after i steps to the machine after i + 1
+-- the first n steps of a run that comes to `runs b` under a budget of b and makes so many: step i leads from the machine after i steps to the one after i + 1
 unfoldable pub firstSteps : {S : Type 0} → (ℕ → Result S) → ℕ → List (Transition S)
 firstSteps runs zero = []
 firstSteps runs (suc i) = firstSteps runs i ++ (record { from = runs i .machine; to = runs (suc i) .machine } ∷ [])

@@ -74,6 +74,12 @@ settled-loops t m Keep s = refl
 settled-loops t m (Result A r) s = refl
 settled-loops t m (Result B r) s = refl
 
+pub settled-mode : (t : ℕ) (m : Mode) (e : Exact) (s : State) → settleOf t m e s .state .core .mode ≡ s .core .mode
+unfolding settleOf
+settled-mode t m Keep s = refl
+settled-mode t m (Result A r) s = refl
+settled-mode t m (Result B r) s = refl
+
 -- ---- with trap word 0 no write traps
 
 pub no-overflow-trap : (t : Target) → trapsOverflow 0 t ≡ false
