@@ -215,18 +215,16 @@ fn boards_with_any_programs() {
     seen.at_least("ends done", 5_000);
 }
 
-/// Two cuttings of one list: the same A where both are clear, which is the exact sum.
-#[test]
-fn two_cuttings_of_one_list() {
-    let mut random = Random::new(112);
+/// Sums, each beside another one of the same products: in how many SA is clear in both, where
+/// A is the same, and in how many in one of them.
+fn compared(seed: u64, other_of: impl Fn(&mut Random, &Sum) -> Option<Sum>) -> (u32, u32) {
+    let mut random = Random::new(seed);
     let (mut both, mut differ) = (0, 0);
     for _ in 0..1_500 {
         let first = listed_sum(&mut random);
-        let second = cut_sum(&mut random, first.mode, &first.pairs);
-        assert_eq!(faults(&second), []);
-        if first.pairs != second.pairs {
+        let Some(second) = other_of(&mut random, &first) else {
             continue;
-        }
+        };
         match (clear(&first), clear(&second)) {
             (Some(one), Some(other)) => {
                 assert_eq!(one, other);
@@ -237,6 +235,17 @@ fn two_cuttings_of_one_list() {
         }
     }
     println!("{both} with both clear, {differ} with one of them");
+    (both, differ)
+}
+
+/// Two cuttings of one list: the same A where both are clear, which is the exact sum.
+#[test]
+fn two_cuttings_of_one_list() {
+    let (both, differ) = compared(112, |random, first| {
+        let second = cut_sum(random, first.mode, &first.pairs);
+        assert_eq!(faults(&second), []);
+        (first.pairs == second.pairs).then_some(second)
+    });
     assert!(both >= 700 && differ >= 5);
 }
 
@@ -244,24 +253,13 @@ fn two_cuttings_of_one_list() {
 /// not depend on it, SA and so the answer do.
 #[test]
 fn boards_in_another_order() {
-    let mut random = Random::new(113);
-    let (mut both, mut differ) = (0, 0);
-    for _ in 0..1_500 {
-        let first = listed_sum(&mut random);
+    let (both, differ) = compared(113, |_, first| {
         let mut runs = first.runs.clone();
         runs.reverse();
         let second = Sum::of_runs(first.mode, runs);
         assert_eq!(faults(&second), []);
-        match (clear(&first), clear(&second)) {
-            (Some(one), Some(other)) => {
-                assert_eq!(one, other);
-                both += 1;
-            }
-            (Some(_), None) | (None, Some(_)) => differ += 1,
-            _ => {}
-        }
-    }
-    println!("{both} with both clear, {differ} with one of them");
+        Some(second)
+    });
     assert!(both >= 1_000 && differ >= 5);
 }
 
