@@ -1,11 +1,11 @@
 -- Rows A to F and L of document 01's table, and edge cases, by computation of the definitions that the contracts cite. Assumes nothing.
 use mathlib.Core.Path.{_≡_, refl}
 use mathlib.Core.Bool.{Bool, true, false}
-use Prim.Native.Nat.{ℕ, _-_, _^_}
-use lib.IntN.{ℤ, pos, negsuc}
+use Prim.Native.Nat.{ℕ, _+_, _-_, _^_}
+use lib.IntN.{ℤ, pos}
 use Rattle.integers.specs.Floor.{remainderOf}
 use Rattle.integers.specs.Bits.{lowBits, signedOf}
-use Rattle.integers.specs.Range.{lowest, highest, outside, nearer, limitedTo}
+use Rattle.integers.specs.Range.{minus, lowest, highest, outside, nearer, limitedTo}
 use Rattle.accumulator.specs.declared.mode.Target.{Target}
 use Rattle.accumulator.specs.declared.mode.Target.the-variants.{A, B}
 use Rattle.accumulator.specs.declared.limit.Accumulator.{Accumulator}
@@ -82,7 +82,7 @@ statuses = (refl, refl, refl)
 -- ---- rows of the table
 
 -- A: 3 × -2, reset mode: -12
-pub row-a : multiplied resetMode 3 0xfffe ≡ negsuc 11
+pub row-a : multiplied resetMode 3 0xfffe ≡ minus 12
 unfolding modeOf productOf readOf signedOf
 row-a = refl
 
@@ -103,7 +103,7 @@ row-c = refl
 pub row-d :
     (rounds 0x20 (pos 98304) ≡ gives 2 false)
     × (rounds 0x20 (pos 32768) ≡ gives 0 false)
-    × (rounds 0x20 (negsuc 32767) ≡ gives 0 false)
+    × (rounds 0x20 (minus 32768) ≡ gives 0 false)
     × (rounds 0x22 (pos 32768) ≡ gives 1 false)
 unfolding modeOf storeOf storedWord roundedOf roundsUp isOdd needsLimiting lowBits remainderOf limitedTo outside nearer lowest highest
 row-d = (refl, refl, refl, refl)
@@ -116,19 +116,19 @@ row-e = (refl, refl)
 -- F: 2^39 - 1 plus 1: kept at 2^39 - 1 with ACCSAT 1 (SATA and ACCSAT, 0090 hex); off -2^39; S both
 pub row-f :
     (written 0x90 A (pos (2 ^ 39)) ≡ holds (pos (2 ^ 39 - 1)) true true)
-    × (written 0 A (pos (2 ^ 39)) ≡ holds (negsuc (2 ^ 39 - 1)) true true)
+    × (written 0 A (pos (2 ^ 39)) ≡ holds (minus (2 ^ 39)) true true)
 unfolding writeOf keptOf hasLeft overflows limitBits saturates modeOf outside nearer lowest highest lowBits remainderOf signedOf
 row-f = (refl, refl)
 
 -- L: -1 shifted 16: -1; 17 is beyond
-pub row-l : (shiftOf (negsuc 0) (pos 16) ≡ negsuc 0) × (shiftAllowed (pos 17) ≡ false)
+pub row-l : (shiftOf (minus 1) (pos 16) ≡ minus 1) × (shiftAllowed (pos 17) ≡ false)
 unfolding shiftOf shiftAllowed
 row-l = (refl, refl)
 
 -- ---- edges
 
 -- with saturation off 2^40 - 2 is kept as -2: O is that of the value kept
-wraps : written 0 B (pos (2 ^ 40 - 2)) ≡ holds (negsuc 1) false true
+wraps : written 0 B (pos (2 ^ 40 - 2)) ≡ holds (minus 2) false true
 unfolding writeOf keptOf hasLeft overflows limitBits saturates modeOf outside nearer lowest highest lowBits remainderOf signedOf
 wraps = refl
 
@@ -144,18 +144,18 @@ by-target = (refl, refl)
 
 -- the lower limits are kept, and one below them is not
 lower :
-    (written 0x80 A (negsuc (2 ^ 31 - 1)) ≡ holds (negsuc (2 ^ 31 - 1)) false false)
-    × (written 0x80 A (negsuc (2 ^ 31)) ≡ holds (negsuc (2 ^ 31 - 1)) false true)
-    × (written 0 A (negsuc (2 ^ 39)) ≡ holds (pos (2 ^ 39 - 1)) true true)
+    (written 0x80 A (minus (2 ^ 31)) ≡ holds (minus (2 ^ 31)) false false)
+    × (written 0x80 A (minus (2 ^ 31 + 1)) ≡ holds (minus (2 ^ 31)) false true)
+    × (written 0 A (minus (2 ^ 39 + 1)) ≡ holds (pos (2 ^ 39 - 1)) true true)
 unfolding writeOf keptOf hasLeft overflows limitBits saturates modeOf outside nearer lowest highest lowBits remainderOf signedOf
 lower = (refl, refl, refl)
 
 -- ties below zero: -98,304 (quotient -2) to -2, -32,768 (quotient -1) to 0; with RND 1 -98,304 to -1
-ties-below : (rounds 0x20 (negsuc 98303) ≡ gives 0xfffe false) × (rounds 0x22 (negsuc 98303) ≡ gives 0xffff false)
+ties-below : (rounds 0x20 (minus 98304) ≡ gives 0xfffe false) × (rounds 0x22 (minus 98304) ≡ gives 0xffff false)
 unfolding modeOf storeOf storedWord roundedOf roundsUp isOdd needsLimiting lowBits remainderOf limitedTo outside nearer lowest highest
 ties-below = (refl, refl)
 
 -- -16 is allowed, -17 is not; to the left by 16
-shifts : (shiftAllowed (negsuc 15) ≡ true) × (shiftAllowed (negsuc 16) ≡ false) × (shiftOf (negsuc 0) (negsuc 15) ≡ negsuc 65535)
+shifts : (shiftAllowed (minus 16) ≡ true) × (shiftAllowed (minus 17) ≡ false) × (shiftOf (minus 1) (minus 16) ≡ minus 65536)
 unfolding shiftOf shiftAllowed
 shifts = (refl, refl, refl)

@@ -28,8 +28,8 @@ roundedOf m v =
     cond (roundsUp m q (lowBits 16 v)) (q +ℤ pos 1) q
 
 -- the result before SATDW
-abbrev pub resultOf : Mode → Bool → ℤ → ℤ
-resultOf m rounded v = cond rounded (roundedOf m v) (truncatedOf v)
+abbrev pub beforeLimiting : Mode → Bool → ℤ → ℤ
+beforeLimiting m rounded v = cond rounded (roundedOf m v) (truncatedOf v)
 
 -- limiting is needed: the result before SATDW is outside -32,768 .. 32,767
 unfoldable pub needsLimiting : ℤ → Bool
@@ -41,7 +41,7 @@ storedWord m q = lowBits 16 (cond (m .satdw) (limitedTo 15 q) q)
 
 -- the word stored, and whether limiting was needed
 unfoldable pub storeOf : Mode → Bool → ℤ → Stored
-storeOf m rounded v = record { word = storedWord m (resultOf m rounded v); limiting = needsLimiting (resultOf m rounded v) }
+storeOf m rounded v = record { word = storedWord m (beforeLimiting m rounded v); limiting = needsLimiting (beforeLimiting m rounded v) }
 
 -- 65,536 × the word, read as signed, differs from v by at most 32,768
 pub record HalfUnit (word : ℕ) (v : ℤ) : Type 0 where

@@ -1,13 +1,14 @@
 -- Rows G and H of the paper's table, and edge cases, by computation of the definitions that the contracts cite. Assumes nothing.
 use mathlib.Core.Path.{_≡_, refl}
 use Prim.Native.Nat.{ℕ}
-use lib.IntN.{pos, negsuc}
+use lib.IntN.{pos}
 use Rattle.integers.specs.Floor.{remainderOf}
 use Rattle.integers.specs.Bits.{lowBits}
+use Rattle.integers.specs.Range.{minus}
 use Rattle.address.specs.declared.step.Buffer.{Buffer}
 use Rattle.address.specs.Word.{addressOf, wordOf}
 use Rattle.address.specs.Region.{xPart, yPart, allWords, isInside, accessTrap}
-use Rattle.address.specs.Step.{sumOf, steppedOf, correctedOf, circularOf}
+use Rattle.address.specs.Step.{addressSum, steppedOf, correctedOf, circularOf}
 use Rattle.address.specs.Reversal.{rev, widthUpTo, widthOf, indexOf, nextIndex, nextOf}
 
 -- the buffer S..E
@@ -59,13 +60,13 @@ traps-all = (refl, refl, refl)
 -- ---- steps
 
 -- sums end at 16 bits
-sums : (sumOf 0xfffe 4 ≡ 2) × (steppedOf 0xfffe (pos 4) ≡ 2) × (steppedOf 0 (negsuc 1) ≡ 0xfffe)
-unfolding sumOf steppedOf lowBits remainderOf
+sums : (addressSum 0xfffe 4 ≡ 2) × (steppedOf 0xfffe (pos 4) ≡ 2) × (steppedOf 0 (minus 2) ≡ 0xfffe)
+unfolding addressSum steppedOf lowBits remainderOf
 sums = (refl, refl, refl)
 
 -- below S; a sum that is E itself; corrected once, and still above E
 corrected :
-    (circularOf (bytes 0x1100 0x1107) 0x1102 (negsuc 3) ≡ 0x1106)
+    (circularOf (bytes 0x1100 0x1107) 0x1102 (minus 4) ≡ 0x1106)
     × (circularOf (bytes 0x1100 0x1107) 0x1105 (pos 2) ≡ 0x1107)
     × (circularOf (bytes 0x1100 0x1105) 0x1104 (pos 14) ≡ 0x110c)
 unfolding circularOf correctedOf lowBits remainderOf
@@ -74,14 +75,14 @@ corrected = (refl, refl, refl)
 -- an old address outside, above and below, is never corrected
 outside :
     (circularOf (bytes 0x1100 0x1107) 0x1108 (pos 4) ≡ 0x110c)
-    × (circularOf (bytes 0x1100 0x1107) 0x10fe (negsuc 3) ≡ 0x10fa)
+    × (circularOf (bytes 0x1100 0x1107) 0x10fe (minus 4) ≡ 0x10fa)
 unfolding circularOf correctedOf lowBits remainderOf
 outside = (refl, refl)
 
 -- a sum above FFFF hex, and one below 0: reduced first, neither would be corrected so
 before-reduction :
     (circularOf (bytes 0xfff0 0xffff) 0xfffe (pos 4) ≡ 0xfff2)
-    × (circularOf (bytes 0x0000 0x0007) 0x0002 (negsuc 3) ≡ 0x0006)
+    × (circularOf (bytes 0x0000 0x0007) 0x0002 (minus 4) ≡ 0x0006)
 unfolding circularOf correctedOf lowBits remainderOf
 before-reduction = (refl, refl)
 

@@ -15,12 +15,12 @@ use Rattle.integers.proofs.Whole.{whole, size, sum, less}
 use Rattle.integers.proofs.Fitting.{word-plain}
 use Rattle.integers.proofs.Low.{low-size}
 use Rattle.address.specs.declared.step.Buffer.{Buffer}
-use Rattle.address.specs.Step.{sumOf, steppedOf, isWithin, sizeOf, correctedOf, circularOf}
+use Rattle.address.specs.Step.{addressSum, steppedOf, isWithin, sizeOf, correctedOf, circularOf}
 
 -- ---- addresses of 16 bits
 
-pub sum-below : (a w : ℕ) → sumOf a w < 2 ^ 16
-unfolding sumOf
+pub sum-below : (a w : ℕ) → addressSum a w < 2 ^ 16
+unfolding addressSum
 sum-below a w = mod-lt (a + w) (lit< tt)
 
 pub stepped-below : (a : ℕ) (step : ℤ) → steppedOf a step < 2 ^ 16

@@ -10,13 +10,13 @@ rev zero j = 0
 rev (suc b) j = j % 2 * 2 ^ b + rev b (j / 2)
 
 -- f i, f (i + 1), .. : n numbers
-abbrev pub listed : (ℕ → ℕ) → ℕ → ℕ → List ℕ
-listed f i zero = []
-listed f i (suc n) = f i ∷ listed f (suc i) n
+abbrev pub valuesFrom : (ℕ → ℕ) → ℕ → ℕ → List ℕ
+valuesFrom f i zero = []
+valuesFrom f i (suc n) = f i ∷ valuesFrom f (suc i) n
 
 -- a table of the 1,024 reversals of ten bits
 unfoldable pub reversalTable : List ℕ
-reversalTable = listed (λ (j : ℕ). rev 10 j) 0 1024
+reversalTable = valuesFrom (λ (j : ℕ). rev 10 j) 0 1024
 
 -- the b of 1 .. top with n = 2 ^ b; 0 where there is none
 unfoldable pub widthUpTo : ℕ → ℕ → ℕ

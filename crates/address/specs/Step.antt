@@ -8,8 +8,8 @@ use Rattle.integers.specs.Bits.{lowBits}
 use Rattle.address.specs.declared.step.Buffer.{Buffer}
 
 -- W9 + W12 and W11 + W13, ended at 16 bits and never corrected
-unfoldable pub sumOf : ℕ → ℕ → ℕ
-sumOf a w = (a + w) % 2 ^ 16
+unfoldable pub addressSum : ℕ → ℕ → ℕ
+addressSum a w = (a + w) % 2 ^ 16
 
 -- an address stepped where no correction applies, ended at 16 bits
 unfoldable pub steppedOf : ℕ → ℤ → ℕ

@@ -3,7 +3,7 @@ use crate::word::ByteAddress;
 ghost use mathlib.Core.Path.{_≡_};
 ghost use lib.IntN.{pos, _+ℤ_};
 ghost use Rattle.integers.specs.Bits.{lowBits};
-ghost use Rattle.address.specs.Step.{sumOf, steppedOf, sizeOf, circularOf};
+ghost use Rattle.address.specs.Step.{addressSum, steppedOf, sizeOf, circularOf};
 
 // A circular buffer: its first and its last byte, the paper's S and E.
 pub struct Buffer {
@@ -13,7 +13,7 @@ pub struct Buffer {
 
 // The sum of an address and a register, W9 + W12 or W11 + W13.
 pub fn sum(a: ByteAddress, w: u16) -> ByteAddress
-    ensures { λ r. ⌜ r .0 ≡ sumOf (a .0) w ⌝ }
+    ensures { λ r. ⌜ r .0 ≡ addressSum (a .0) w ⌝ }
 {
     let at = a.0;
     ByteAddress(std::num::wrapping_add_u16(at, w))

@@ -13,9 +13,9 @@ use Rattle.combine.specs.declared.call.Combined.the-variants.{Sum, Refus
 use Rattle.combine.proofs.Exact.{cut-exact}
 
 -- the sum of an answer
-abbrev sumOf : Accumulator → Combined → Accumulator
-sumOf x (Sum y) = y
-sumOf x (Refused n) = x
+abbrev sumIn : Accumulator → Combined → Accumulator
+sumIn x (Sum y) = y
+sumIn x (Refused n) = x
 
 -- an answer that is a refusal
 abbrev IsRefused : Combined → Type 0
@@ -37,7 +37,7 @@ module _ (boards : List Board) (count mode : ℕ) where
       record {
         answer = rw z;
         exact = λ whole cut call is runs sum e clear.
-            let same : combinedOf (modeOf mode) boards count ≡ sum = ap (sumOf sum) e in
+            let same : combinedOf (modeOf mode) boards count ≡ sum = ap (sumIn sum) e in
             ap (λ (x : Accumulator). x .value) (sym same)
             ∙ cut-exact whole cut call count is mode boards runs (ap (λ (x : Accumulator). x .saturation) same ∙ clear);
       }

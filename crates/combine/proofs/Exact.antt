@@ -10,7 +10,7 @@ use lib.ListN.{take}
 use lib.Seq.{take-add, take-length}
 use Rattle.integers.proofs.Whole.{neither}
 use Rattle.accumulator.specs.Mode.{modeOf}
-use Rattle.combine.specs.Boards.{boardAt, anySet, startOf, combinedOf}
+use Rattle.combine.specs.Boards.{boardAt, anySet, sumStart, combinedOf}
 use Rattle.combine.specs.Dot.{Pair, dotOf, BoardCall, pairsOn}
 use Rattle.combine.specs.Call.{Cut, HandsOver}
 use Rattle.combine.specs.declared.board.Board.{Board}
@@ -45,7 +45,7 @@ module _ (mode : ℕ) (boards : List Board) (call : ℕ → BoardCall) where
       → combinedOf (modeOf mode) boards count .value ≡ dotOf integer (joined call count)
   unfolding combinedOf
   combined-exact count h e =
-      let t = added-exact (modeOf mode) boards (startOf boards count) count e in
+      let t = added-exact (modeOf mode) boards (sumStart boards count) count e in
       t .1 ∙ +ℤ-idl (sumUp boards count) ∙ joined-exact count h (t .0)
 
 -- the stretches that a list is cut into, one after the other, are the list

@@ -20,7 +20,7 @@ use Rattle.state.specs.declared.state.Core.{Core}
 use Rattle.state.specs.declared.state.State.{State}
 use Rattle.effects.specs.Operations.{workOf}
 use Rattle.effects.specs.declared.effect.Exact.{Exact}
-use Rattle.effects.specs.declared.effect.Exact.the-variants.{Keep, Result as ExactResult}
+use Rattle.effects.specs.declared.effect.Exact.the-variants.{Keep, Replace}
 use Rattle.machine.specs.Write.{settleOf}
 use Rattle.machine.specs.Control.{controlOf, clears, stateControlled}
 use Rattle.machine.specs.Step.{operationAt, stateAfter}
@@ -69,10 +69,10 @@ settled-a : (traps : ℕ) (m : Mode) (e : Exact) (s : State) (r : ℤ) (adds : B
 unfolding settleOf writeOf
 settled-a traps m Keep s r true h clear = absurd h
 settled-a traps m Keep s r false h clear = refl
-settled-a traps m (ExactResult A x) s r true h clear = kept-inside m A x (neither (s .sa) (hasLeft m A x) (clear refl) .1) ∙ h
-settled-a traps m (ExactResult A x) s r false h clear = absurd h
-settled-a traps m (ExactResult B x) s r true h clear = absurd h
-settled-a traps m (ExactResult B x) s r false h clear = refl
+settled-a traps m (Replace A x) s r true h clear = kept-inside m A x (neither (s .sa) (hasLeft m A x) (clear refl) .1) ∙ h
+settled-a traps m (Replace A x) s r false h clear = absurd h
+settled-a traps m (Replace B x) s r true h clear = absurd h
+settled-a traps m (Replace B x) s r false h clear = refl
 
 -- ---- a step
 

@@ -35,7 +35,7 @@ use Rattle.effects.specs.Mac.{exactBy, macProduct, macSquare, macExact, macAcce
 use Rattle.effects.specs.Operations.{shiftWork, loadedValue, loadWork, storeWork, scaledOf, moveWork, loopWork, workOf}
 use Rattle.effects.specs.declared.pointer.Purpose.the-variants.{Read, Store as Storing}
 use Rattle.effects.specs.declared.effect.Exact.{Exact}
-use Rattle.effects.specs.declared.effect.Exact.the-variants.{Keep, Result as ExactResult}
+use Rattle.effects.specs.declared.effect.Exact.the-variants.{Keep, Replace}
 use Rattle.effects.specs.declared.effect.Value.{Value}
 use Rattle.effects.specs.declared.effect.Value.the-variants.{Word, Scaled}
 use Rattle.machine.specs.Control.{controlOf, clears}
@@ -44,14 +44,14 @@ use Rattle.combine.specs.Dot.{pairProduct, isWritingKind, writesA, addsT
 -- an exact result that writes r to A, or leaves A
 abbrev pub Meets : ℤ → Bool → Exact → Type 0
 Meets r true Keep = ⊥
-Meets r true (ExactResult A x) = x ≡ r
-Meets r true (ExactResult B x) = ⊥
+Meets r true (Replace A x) = x ≡ r
+Meets r true (Replace B x) = ⊥
 Meets r false Keep = Unit {0}
-Meets r false (ExactResult A x) = ⊥
-Meets r false (ExactResult B x) = Unit {0}
+Meets r false (Replace A x) = ⊥
+Meets r false (Replace B x) = Unit {0}
 
 -- a result for the target leaves A where the target is not A
-other-meets : (r x : ℤ) (t : Target) → (eqb (targetByte t) 0 ≡ true → false ≡ true) → Meets r false (ExactResult t x)
+other-meets : (r x : ℤ) (t : Target) → (eqb (targetByte t) 0 ≡ true → false ≡ true) → Meets r false (Replace t x)
 other-meets r x A h = never (h refl)
 other-meets r x B h = tt
 

@@ -43,8 +43,8 @@ anySet boards (suc n) = anySet boards n || boardAt boards n .sa
 -- ---- their sum
 
 -- from 0; SA also starts set if any board's was
-abbrev pub startOf : List Board → ℕ → Accumulator
-startOf boards count = record { value = pos 0; overflow = false; saturation = anySet boards count }
+abbrev pub sumStart : List Board → ℕ → Accumulator
+sumStart boards count = record { value = pos 0; overflow = false; saturation = anySet boards count }
 
 -- one board's A is added, through the accumulator rules for A
 unfoldable pub added : Accumulator → Mode → ℤ → Accumulator
@@ -57,7 +57,7 @@ addedUp m boards start (suc n) = added (addedUp m boards start n) m (boardAt boa
 
 -- into one A with its flags
 unfoldable pub combinedOf : Mode → List Board → ℕ → Accumulator
-combinedOf m boards count = addedUp m boards (startOf boards count) count
+combinedOf m boards count = addedUp m boards (sumStart boards count) count
 
 -- ---- the answer
 

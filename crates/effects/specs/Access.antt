@@ -5,7 +5,7 @@ use lib.IntN.{pos}
 use lib.ListN.{length, getD, set}
 use Rattle.address.specs.Word.{wordOf}
 use Rattle.address.specs.Region.{xPart, yPart, allWords, accessTrap}
-use Rattle.address.specs.Step.{sumOf}
+use Rattle.address.specs.Step.{addressSum}
 use Rattle.address.specs.declared.region.Region.{Region}
 use Rattle.operations.specs.declared.operation.Operand.{Operand}
 use Rattle.operations.specs.declared.operation.Operand.the-variants.{Register as Direct, Memory as Pointed}
@@ -59,8 +59,8 @@ circularFor s Y = s .y
 
 -- address W9 + W12 for X, W11 + W13 for Y
 abbrev pub sumAddress : Space → List ℕ → ℕ
-sumAddress X w = sumOf (register w 9) (register w 12)
-sumAddress Y w = sumOf (register w 11) (register w 13)
+sumAddress X w = addressSum (register w 9) (register w 12)
+sumAddress Y w = addressSum (register w 11) (register w 13)
 
 -- b3 and b4: none, a pointer with step 2(c − 3), or a sum, which is never corrected
 unfoldable pub prefetchAccess : Settings → Space → Prefetch → List ℕ → ℕ → Access

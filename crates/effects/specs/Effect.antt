@@ -8,7 +8,7 @@ use Rattle.accumulator.specs.declared.mode.Target.{Target}
 use Rattle.effects.specs.declared.access.Place.{Place}
 use Rattle.effects.specs.declared.access.Place.the-variants.{Nowhere}
 use Rattle.effects.specs.declared.effect.Exact.{Exact}
-use Rattle.effects.specs.declared.effect.Exact.the-variants.{Keep, Result}
+use Rattle.effects.specs.declared.effect.Exact.the-variants.{Keep, Replace}
 use Rattle.effects.specs.declared.effect.Value.{Value}
 use Rattle.effects.specs.declared.effect.Value.the-variants.{Word}
 use Rattle.effects.specs.declared.effect.Effect.{Effect}
@@ -28,7 +28,7 @@ quiet w = blocked w 0
 
 -- an exact result for an accumulator
 abbrev pub results : List ℕ → Target → ℤ → Work
-results w t r = record { w = w; effect = record { trap = 0; exact = Result t r; place = Nowhere; value = Word 0 } }
+results w t r = record { w = w; effect = record { trap = 0; exact = Replace t r; place = Nowhere; value = Word 0 } }
 
 -- a store
 abbrev pub stores : List ℕ → Place → Value → Work

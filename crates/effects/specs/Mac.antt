@@ -23,7 +23,7 @@ use Rattle.effects.specs.Effect.{Work, unlessTrap}
 use Rattle.effects.specs.declared.access.Space.the-variants.{X, Y}
 use Rattle.effects.specs.declared.access.Access.{Access}
 use Rattle.effects.specs.declared.effect.Exact.{Exact}
-use Rattle.effects.specs.declared.effect.Exact.the-variants.{Keep, Result}
+use Rattle.effects.specs.declared.effect.Exact.the-variants.{Keep, Replace}
 use Rattle.effects.specs.declared.effect.Value.the-variants.{Scaled}
 use Rattle.effects.specs.declared.mac.Accesses.{Accesses}
 
@@ -43,12 +43,12 @@ macSquare m k w = squareOf (m .integer) (factorOf m w (k .m))
 
 -- 1 CLR (0), 2 MPY (p), 3 MAC (+p), 4 MSC (−p), 5 ED (m²), 6 EDAC (+m²), 7 MOVSAC (accumulator untouched); v is the accumulator before
 unfoldable pub exactBy : Action → Target → ℤ → ℤ → ℤ → Exact
-exactBy Clr t v p square = Result t (pos 0)
-exactBy Mpy t v p square = Result t p
-exactBy Mac t v p square = Result t (v +ℤ p)
-exactBy Msc t v p square = Result t (v -ℤ p)
-exactBy Ed t v p square = Result t square
-exactBy Edac t v p square = Result t (v +ℤ square)
+exactBy Clr t v p square = Replace t (pos 0)
+exactBy Mpy t v p square = Replace t p
+exactBy Mac t v p square = Replace t (v +ℤ p)
+exactBy Msc t v p square = Replace t (v -ℤ p)
+exactBy Ed t v p square = Replace t square
+exactBy Edac t v p square = Replace t (v +ℤ square)
 exactBy Movsac t v p square = Keep
 
 -- of kind, target and factors

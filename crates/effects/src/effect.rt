@@ -31,7 +31,7 @@ ghost use Rattle.effects.specs.Lent.{coreOf, workIn};
 // An accumulator's result: none, or an exact whole number, not yet limited.
 pub enum Exact {
     Keep,
-    Result { target: Target, r: i64 },
+    Replace { target: Target, r: i64 },
 }
 
 // What is stored: a word, or an accumulator's exact scaled value, to be rounded or truncated.
@@ -73,7 +73,7 @@ pub fn results(target: Target, r: i64) -> Effect
 {
     Effect {
         trap: 0,
-        exact: Exact::Result { target, r },
+        exact: Exact::Replace { target, r },
         place: Place::Nowhere,
         value: Value::Word(0),
     }

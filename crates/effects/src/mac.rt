@@ -93,24 +93,24 @@ fn mac_exact(mode: Mode, k: MacClass, s: Scalars, w: &[u16; 14]) -> Exact
     let target = k.target;
     let v = s.value(target);
     match action {
-        Action::Clr => Exact::Result { target, r: 0 },
-        Action::Mpy => Exact::Result {
+        Action::Clr => Exact::Replace { target, r: 0 },
+        Action::Mpy => Exact::Replace {
             target,
             r: mac_product(mode, k, w),
         },
-        Action::Mac => Exact::Result {
+        Action::Mac => Exact::Replace {
             target,
             r: plus(v, mac_product(mode, k, w)),
         },
-        Action::Msc => Exact::Result {
+        Action::Msc => Exact::Replace {
             target,
             r: minus(v, mac_product(mode, k, w)),
         },
-        Action::Ed => Exact::Result {
+        Action::Ed => Exact::Replace {
             target,
             r: mac_square(mode, k, w),
         },
-        Action::Edac => Exact::Result {
+        Action::Edac => Exact::Replace {
             target,
             r: plus(v, mac_square(mode, k, w)),
         },

@@ -21,7 +21,7 @@ use Rattle.state.specs.declared.state.Core.{Core}
 use Rattle.state.specs.declared.state.State.{State}
 use Rattle.effects.specs.Operations.{workOf}
 use Rattle.effects.specs.declared.effect.Exact.{Exact}
-use Rattle.effects.specs.declared.effect.Exact.the-variants.{Keep, Result as ExactResult}
+use Rattle.effects.specs.declared.effect.Exact.the-variants.{Keep, Replace}
 use Rattle.machine.specs.Write.{trapAfter, settleOf}
 use Rattle.machine.specs.Control.{controlOf, controlled, clears, stateControlled}
 use Rattle.machine.specs.Step.{Step, operationAt, stateAfter, completed, stepped}
@@ -115,10 +115,10 @@ module _ (m : Mode) where
   pub settle-stays : (traps : ℕ) (t : Target) (e : Exact) (s : State) → SetIn t s → SetIn t (settleOf traps m e s .state)
   unfolding settleOf
   settle-stays traps t Keep s h = h
-  settle-stays traps A (ExactResult A r) s h = saturation-stays (accumulatorAt s A) m A r h
-  settle-stays traps A (ExactResult B r) s h = h
-  settle-stays traps B (ExactResult A r) s h = h
-  settle-stays traps B (ExactResult B r) s h = saturation-stays (accumulatorAt s B) m B r h
+  settle-stays traps A (Replace A r) s h = saturation-stays (accumulatorAt s A) m A r h
+  settle-stays traps A (Replace B r) s h = h
+  settle-stays traps B (Replace A r) s h = h
+  settle-stays traps B (Replace B r) s h = saturation-stays (accumulatorAt s B) m B r h
 
 -- ---- one step
 
@@ -150,8 +150,8 @@ module _ (p : List Operation) (o : Operation) (stays : clears (controlOf o) ≡ 
         → Follows (settling p o traps m e (cleared c) memory) (keepExact stops p traps m o e c memory l)
     unfolding settleOf keepExact
     settling-follows Keep c memory l = rw (controlled-clear c)
-    settling-follows (ExactResult t r) c memory l =
-        by-test (Follows (settling p o traps m (ExactResult t r) (cleared c) memory)) (hasLeft m t r)
+    settling-follows (Replace t r) c memory l =
+        by-test (Follows (settling p o traps m (Replace t r) (cleared c) memory)) (hasLeft m t r)
         (λ e.
         let set = either (λ t. controlled-stays t _) (write-flags m t r c e) in
         by-test Sets (eqb (trapAfter traps m t r) 0) (λ f. set) (λ f. set))

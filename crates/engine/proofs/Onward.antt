@@ -15,7 +15,7 @@ use Rattle.state.specs.declared.settings.Settings.{Settings}
 use Rattle.state.specs.declared.state.Core.{Core}
 use Rattle.effects.specs.Operations.{workOf}
 use Rattle.effects.specs.declared.effect.Exact.{Exact}
-use Rattle.effects.specs.declared.effect.Exact.the-variants.{Keep, Result as ExactResult}
+use Rattle.effects.specs.declared.effect.Exact.the-variants.{Keep, Replace}
 use Rattle.machine.specs.Control.{controlOf, controlled}
 use Rattle.machine.specs.Step.{operationAt}
 use Rattle.engine.specs.Run.{Turn, Result, complete, after}
@@ -28,7 +28,7 @@ use Rattle.engine.proofs.Runs.{run-pairs}
 
 -- r is kept, wherever it lies, with its O flag; the step is counted, and its store stays on the list
 pub onward-keeps : (p : List Operation) (traps : ℕ) (m : Mode) (o : Operation) (t : Target) (r : ℤ) (c : Core) (memory : List ℕ) (l : List Entry)
-    → keepExact goesOn p traps m o (ExactResult t r) c memory l
+    → keepExact goesOn p traps m o (Replace t r) c memory l
     ≡ complete (exactTrap traps t r)
     (record { core = controlled p (controlOf o) (withAccumulator c t r (overflows r)); memory = memory; stores = l })
 unfolding keepExact
@@ -63,9 +63,9 @@ module _ (p : List Operation) (settings : Settings) where
       → Unless (keepExact stops p (settings .traps) m o e c memory l) (keepExact goesOn p (settings .traps) m o e c memory l)
   unfolding keepExact
   keep-unless m o Keep c memory l = refl
-  keep-unless m o (ExactResult t r) c memory l =
-      by-test (λ (u : Turn Ledger). Unless u (keepExact goesOn p (settings .traps) m o (ExactResult t r) c memory l)) (hasLeft m t r) (λ e. tt)
-      (λ e. unless-same (keepExact goesOn p (settings .traps) m o (ExactResult t r) c memory l))
+  keep-unless m o (Replace t r) c memory l =
+      by-test (λ (u : Turn Ledger). Unless u (keepExact goesOn p (settings .traps) m o (Replace t r) c memory l)) (hasLeft m t r) (λ e. tt)
+      (λ e. unless-same (keepExact goesOn p (settings .traps) m o (Replace t r) c memory l))
 
   turn-unless : (k : ℕ) (y : Ledger) → Unless (exactTurn stops p settings k y) (exactTurn goesOn p settings k y)
   unfolding exactTurn

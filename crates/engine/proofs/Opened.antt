@@ -7,7 +7,7 @@ use Rattle.state.specs.declared.state.State.{State}
 use Rattle.machine.proofs.Opened.{after}
 use Rattle.engine.specs.Run.{Result, run}
 use Rattle.engine.specs.Engine.{Engine, engineTurn, engineRun}
-use Rattle.engine.specs.Ledger.{Ledger, listed, exactTrap, keepExact, exactTurn, exactRun, ledgerRun, onwardRun}
+use Rattle.engine.specs.Ledger.{Ledger, withStore, exactTrap, keepExact, exactTurn, exactRun, ledgerRun, onwardRun}
 
 -- the engine's
 unfoldable pub engine : List Operation → Settings → ℕ → State → List ℕ → Result Engine
@@ -16,7 +16,7 @@ engine p settings budget s memory = engineRun p settings budget s memory
 
 -- the ledger's of document 01
 unfoldable pub exact : List Operation → Settings → ℕ → State → List ℕ → Result Ledger
-unfolding exactRun run exactTurn keepExact exactTrap listed after
+unfolding exactRun run exactTurn keepExact exactTrap withStore after
 exact p settings budget s memory = ledgerRun p settings budget (s .core) memory
 
 -- the ledger's that goes on

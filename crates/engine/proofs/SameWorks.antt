@@ -35,7 +35,7 @@ use Rattle.effects.specs.declared.access.Place.{Place}
 use Rattle.effects.specs.declared.access.Place.the-variants.{Nowhere}
 use Rattle.effects.specs.declared.pointer.Purpose.the-variants.{Read}
 use Rattle.effects.specs.declared.effect.Exact.{Exact}
-use Rattle.effects.specs.declared.effect.Exact.the-variants.{Keep, Result}
+use Rattle.effects.specs.declared.effect.Exact.the-variants.{Keep, Replace}
 use Rattle.effects.specs.declared.effect.Value.{Value}
 use Rattle.effects.specs.declared.effect.Value.the-variants.{Scaled}
 use Rattle.machine.specs.Write.{valueWord, putRegister, putMemory}
@@ -48,11 +48,11 @@ use Rattle.engine.specs.Wraps.{isBarredKind, isBarred}
 -- exact results for the same accumulator, equal modulo 2^40
 pub data SameExact : Exact → Exact → Type 0 where
   keep : SameExact Keep Keep
-  result : (t : Target) {r r′ : ℤ} → SameModulo 40 r r′ → SameExact (Result t r) (Result t r′)
+  result : (t : Target) {r r′ : ℤ} → SameModulo 40 r r′ → SameExact (Replace t r) (Replace t r′)
 
 same-exact : (e : Exact) → SameExact e e
 same-exact Keep = keep
-same-exact (Result t r) = result t (same-self r)
+same-exact (Replace t r) = result t (same-self r)
 
 -- two works with the same trap, exact results equal modulo 2^40, and the same registers and memory after the store
 pub record SameWork (m : Mode) (u v : Work) : Type 0 where

@@ -14,7 +14,7 @@ use Rattle.state.specs.declared.state.Core.{Core}
 use Rattle.state.specs.declared.state.State.{State}
 use Rattle.effects.specs.Operations.{workOf}
 use Rattle.effects.specs.declared.effect.Exact.{Exact}
-use Rattle.effects.specs.declared.effect.Exact.the-variants.{Keep, Result as ExactResult}
+use Rattle.effects.specs.declared.effect.Exact.the-variants.{Keep, Replace}
 use Rattle.machine.specs.Step.{operationAt, stepped}
 use Rattle.engine.specs.Run.{Stop, Turn, Result, complete, after, run}
 use Rattle.engine.specs.Run.Stop.{ended, left}
@@ -100,7 +100,7 @@ module _ (p : List Operation) (settings : Settings) where
       → Avoids isSpent (keepExact beyond p (settings .traps) m o e c memory l)
   unfolding keepExact
   kept-ends beyond m o Keep c memory l = tt
-  kept-ends beyond m o (ExactResult t r) c memory l =
+  kept-ends beyond m o (Replace t r) c memory l =
       by-test (Avoids isSpent) (stopsAt beyond m t r) (λ e. refl) (λ e. complete-ends isSpent (λ n. refl) (exactTrap (settings .traps) t r) _)
 
   ledger-ends : (beyond : Beyond) (k : ℕ) (y : Ledger) → Avoids isSpent (exactTurn beyond p settings k y)

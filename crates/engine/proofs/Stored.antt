@@ -29,7 +29,7 @@ use Rattle.effects.specs.Operations.{workOf}
 use Rattle.effects.specs.declared.access.Place.{Place}
 use Rattle.effects.specs.declared.access.Place.the-variants.{Nowhere, Register, Memory}
 use Rattle.effects.specs.declared.effect.Exact.{Exact}
-use Rattle.effects.specs.declared.effect.Exact.the-variants.{Keep, Result as ExactResult}
+use Rattle.effects.specs.declared.effect.Exact.the-variants.{Keep, Replace}
 use Rattle.effects.specs.declared.effect.Value.{Value}
 use Rattle.effects.specs.declared.effect.Value.the-variants.{Word, Scaled}
 use Rattle.machine.specs.Write.{valueWord, putRegister, putMemory}
@@ -39,7 +39,7 @@ use Rattle.machine.specs.declared.control.Control.{Control}
 use Rattle.engine.specs.Run.{Turn, Result, run}
 use Rattle.engine.specs.Run.Turn.{over, last, next}
 use Rattle.engine.specs.Engine.{Engine, engineTurn, engineFrom, engineRun}
-use Rattle.engine.specs.Ledger.{Entry, isStored, listed, Ledger, exactTrap, keepExact, exactTurn, ledgerDone, exactRun, ledgerRun}
+use Rattle.engine.specs.Ledger.{Entry, isStored, withStore, Ledger, exactTrap, keepExact, exactTurn, ledgerDone, exactRun, ledgerRun}
 use Rattle.engine.specs.Ledger.Beyond.{stops}
 use Rattle.engine.specs.Exact.{holdsClear, wordIn, storedAt}
 use Rattle.engine.proofs.Runs.{Keeps, run-keeps}
@@ -62,7 +62,7 @@ module _ (p : List Operation) where
       → ((d : Core) → Same c d → P (record { core = d; memory = memory; stores = l })) → Keeps P P (keepExact stops p traps m o e c memory l)
   unfolding keepExact
   kept-leaves P traps m o Keep c memory l h = h _ (controlled-w (controlOf o) c)
-  kept-leaves P traps m o (ExactResult t r) c memory l h =
+  kept-leaves P traps m o (Replace t r) c memory l h =
       let kept = h _ (controlled-w (controlOf o) (withAccumulator c t r (overflows r)) ∙ written-w t) in
       by-test (Keeps P P) (hasLeft m t r) (λ e. tt) (λ e. by-test (Keeps P P) (eqb (exactTrap traps t r) 0) (λ f. kept) (λ f. kept))
     where
@@ -99,7 +99,7 @@ module _ (p : List Operation) (settings : Settings) (ok : (i : ℕ) → i < leng
   -- y′ is y after its step, the k-th
   record After (k : ℕ) (y y′ : Ledger) : Type 0 where
     long : length (y′ .core .w) ≡ 14
-    lists : y′ .stores ≡ listed (modeAt y) k (workAt y .effect .place) (workAt y .effect .value) (y .stores)
+    lists : y′ .stores ≡ withStore (modeAt y) k (workAt y .effect .place) (workAt y .effect .value) (y .stores)
     stands : isStored (workAt y .effect .place) ≡ true → wordIn (clear y′) (workAt y .effect .place) ≡ valueWord (modeAt y) (workAt y .effect .value)
 
   turn-leaves : (k : ℕ) (y : Ledger) → length (y .core .w) ≡ 14 → Keeps (After (suc k) y) (After (suc k) y) (exactTurn stops p settings k y)
@@ -126,7 +126,7 @@ module _ (p : List Operation) (settings : Settings) (ok : (i : ℕ) → i < leng
     abbrev engineAt : ℕ → Engine
     engineAt k = engineRun p settings k (cleared start) memory .machine
 
-    -- a store is right: the engine's word is the listed one, and half a unit off at most where it is rounded and needed no limiting
+    -- a store is right: the engine's word is the withStore one, and half a unit off at most where it is rounded and needed no limiting
     pub record Right (e : Entry) : Type 0 where
       pub word : signedOf 16 (storedAt p settings (cleared start) memory e) ≡ e .word
       pub half : e .rounded ≡ true → e .limiting ≡ false → HalfUnit (storedAt p settings (cleared start) memory e) (e .value)
@@ -135,16 +135,16 @@ module _ (p : List Operation) (settings : Settings) (ok : (i : ℕ) → i < leng
     abbrev pub Rights : List Entry → Type 0
     Rights l = (e : Entry) → List·Memᴰ e l → Right e
 
-    -- the ledger is y after k steps: the engine's run from the start goes through it, and the stores listed so far are right
+    -- the ledger is y after k steps: the engine's run from the start goes through it, and the stores withStore so far are right
     record Reached (k : ℕ) (y : Ledger) : Type 0 where
       long : length (y .core .w) ≡ 14
       through : (n : ℕ) → engineRun p settings (k + n) (cleared start) memory ≡ engineFrom p settings n k (clear y)
       rights : Rights (y .stores)
 
-    -- the store of step k, listed
+    -- the store of step k, withStore
     rights-listed : (m : Mode) (k : ℕ) (place : Place) (x : Value) (l : List Entry)
-        → (isStored place ≡ true → wordIn (engineAt k) place ≡ valueWord m x) → Rights l → Rights (listed m k place x l)
-    unfolding listed valueWord
+        → (isStored place ≡ true → wordIn (engineAt k) place ≡ valueWord m x) → Rights l → Rights (withStore m k place x l)
+    unfolding withStore valueWord
     rights-listed m k place (Word x) l h r = r
     rights-listed m k place (Scaled rounded v) l h r =
         by-test Rights (isStored place)

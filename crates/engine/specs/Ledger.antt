@@ -21,7 +21,7 @@ use Rattle.effects.specs.Operations.{workOf}
 use Rattle.effects.specs.declared.access.Place.{Place}
 use Rattle.effects.specs.declared.access.Place.the-variants.{Nowhere, Register, Memory}
 use Rattle.effects.specs.declared.effect.Exact.{Exact}
-use Rattle.effects.specs.declared.effect.Exact.the-variants.{Keep, Result as ExactResult}
+use Rattle.effects.specs.declared.effect.Exact.the-variants.{Keep, Replace}
 use Rattle.effects.specs.declared.effect.Value.{Value}
 use Rattle.effects.specs.declared.effect.Value.the-variants.{Word, Scaled}
 use Rattle.machine.specs.Write.{overflowTrap, valueWord, putRegister, putMemory}
@@ -51,9 +51,9 @@ isStored (Register r) = true
 isStored (Memory i) = true
 
 -- for each accumulator store (kinds 14, 15, write-back), latest first
-unfoldable pub listed : Mode → ℕ → Place → Value → List Entry → List Entry
-listed m k place (Word x) l = l
-listed m k place (Scaled rounded v) l =
+unfoldable pub withStore : Mode → ℕ → Place → Value → List Entry → List Entry
+withStore m k place (Word x) l = l
+withStore m k place (Scaled rounded v) l =
     let stored = storeOf m rounded v in
     cond (isStored place)
     (record { step = k; place = place; value = v; word = signedOf 16 (stored .word); limiting = stored .limiting; rounded = rounded } ∷ l)
@@ -84,7 +84,7 @@ stopsAt goesOn m t r = false
 -- each exact r is kept; where it stops it is marked "left"
 unfoldable pub keepExact : Beyond → List Operation → ℕ → Mode → Operation → Exact → Core → List ℕ → List Entry → Turn Ledger
 keepExact beyond p traps m o Keep c memory l = next (record { core = controlled p (controlOf o) c; memory = memory; stores = l })
-keepExact beyond p traps m o (ExactResult t r) c memory l =
+keepExact beyond p traps m o (Replace t r) c memory l =
     cond (stopsAt beyond m t r)
     (over left)
     (complete (exactTrap traps t r)
@@ -103,7 +103,7 @@ exactTurn beyond p settings k x =
     (keepExact beyond p (settings .traps) m o (work .effect .exact)
     (withRegisters c (putRegister place word (work .w)))
     (putMemory place word (x .memory))
-    (listed m (suc k) place (work .effect .value) (x .stores)))
+    (withStore m (suc k) place (work .effect .value) (x .stores)))
     (over (ended (Trap (work .effect .trap))))
 
 -- ---- its run

@@ -3,8 +3,9 @@ use Prim.Native.Nat.{ℕ, _-_, _^_}
 use mathlib.Core.Bool.{Bool, false, cond}
 use mathlib.Core.List.{List, [], _∷_, map}
 use mathlib.Core.Path.{_≡_}
-use lib.IntN.{ℤ, pos, negsuc}
+use lib.IntN.{ℤ, pos}
 use lib.ListN.{getD, set, replicate}
+use Rattle.integers.specs.Range.{minus}
 use Rattle.accumulator.specs.declared.mode.Target.the-variants.{A}
 use Rattle.operations.specs.declared.operation.Action.{Action}
 use Rattle.operations.specs.declared.operation.Action.the-variants.{Mpy, Ed, Movsac}
@@ -169,7 +170,7 @@ stores8 = Store 0 8 Increment ∷ Store 0 8 Increment ∷ []
 unfoldable pub table : List Row
 table =
     -- A: 3 × −2, reset mode: −12
-    row (Literal 4 3 ∷ Literal 5 0xfffe ∷ mac Mpy 4 5 NoRead 0 NoRead 0 ∷ []) resetState lookA (negsuc 11 ∷ [])
+    row (Literal 4 3 ∷ Literal 5 0xfffe ∷ mac Mpy 4 5 NoRead 0 NoRead 0 ∷ []) resetState lookA (minus 12 ∷ [])
     -- B: −32,768 squared, IF 0: 2^31; ACCSAT 0 saturating 2^31−1 with S, off 2^31 with O only
     ∷ row (squared ∷ []) (startOf (only 4 0x8000) (pos 0) (pos 0) 0x90) lookA (pos (2 ^ 31) ∷ [])
     ∷ row (squared ∷ []) (startOf (only 4 0x8000) (pos 0) (pos 0) 0x80) lookFlags (pos (2 ^ 31 - 1) ∷ pos 0 ∷ pos 1 ∷ [])
@@ -179,14 +180,14 @@ table =
     -- D: RND 0 stores 98,304 as 2, 32,768 as 0, −32,768 as 0; RND 1 stores 32,768 as 1
     ∷ stored (pos 98304) 0x20 (pos 2)
     ∷ stored (pos 32768) 0x20 (pos 0)
-    ∷ stored (negsuc 32767) 0x20 (pos 0)
+    ∷ stored (minus 32768) 0x20 (pos 0)
     ∷ stored (pos 32768) 0x22 (pos 1)
     -- E: 2,147,450,880 rounded: 32,767; SATDW off 8000 hex
     ∷ stored (pos 2147450880) 0x20 (pos 32767)
     ∷ stored (pos 2147450880) 0 (pos 0x8000)
     -- F: 2^39−1 plus 1: kept at 2^39−1 with ACCSAT 1; off −2^39; S both
     ∷ summed 0x90 (pos (2 ^ 39 - 1))
-    ∷ summed 0 (negsuc (2 ^ 39 - 1))
+    ∷ summed 0 (minus (2 ^ 39))
     -- G: S 1100, E 1107, 1106 + 4 gives 1102 (hex)
     ∷ rowIn circular8 1 Done (mac Movsac 0 0 (Pointer 8 5) 4 NoRead 0 ∷ []) (startOf (only 8 0x1106) (pos 0) (pos 0) 0x20) (lookAt 8) (pos 0x1102 ∷ [])
     -- H: N 8, 1200 then 1208 then 1204 (hex)
@@ -200,8 +201,8 @@ table =
     -- K: X 1 minus Y 2: FFFF hex
     ∷ row (mac Ed 4 4 (Pointer 8 3) 5 (Pointer 10 3) 0 ∷ []) (startOf (set (only 8 0x1000) 10 0x1004) (pos 0) (pos 0) 0x20) (lookAt 5) (pos 0xffff ∷ [])
     -- L: −1 shifted 16: −1; 17: trap 3
-    ∷ row (Shift A 0 ∷ []) (startOf (only 0 16) (negsuc 0) (pos 0) 0x20) lookSteps (pos 1 ∷ negsuc 0 ∷ [])
-    ∷ rowTo (Trap 3) (Shift A 0 ∷ []) (startOf (only 0 17) (negsuc 0) (pos 0) 0x20) lookSteps (pos 0 ∷ negsuc 0 ∷ [])
+    ∷ row (Shift A 0 ∷ []) (startOf (only 0 16) (minus 1) (pos 0) 0x20) lookSteps (pos 1 ∷ minus 1 ∷ [])
+    ∷ rowTo (Trap 3) (Shift A 0 ∷ []) (startOf (only 0 17) (minus 1) (pos 0) 0x20) lookSteps (pos 0 ∷ minus 1 ∷ [])
     ∷ []
 
 -- the paper's words about every row are what its run gives

@@ -4,9 +4,13 @@ use Prim.Native.Nat.{ℕ, _<_, _-_, _^_}
 use lib.IntN.{ℤ, pos, negℤ}
 use lib.Signed.{mag, ltZ}
 
+-- a negative number as papers write it: minus 12 is -12
+abbrev pub minus : ℕ → ℤ
+minus n = negℤ (pos n)
+
 -- the least of them
 unfoldable pub lowest : ℕ → ℤ
-lowest k = negℤ (pos (2 ^ k))
+lowest k = minus (2 ^ k)
 
 -- the greatest of them
 unfoldable pub highest : ℕ → ℤ

@@ -23,7 +23,7 @@ use Rattle.state.specs.declared.state.State.{State}
 use Rattle.effects.specs.Effect.{Work}
 use Rattle.effects.specs.Operations.{workOf}
 use Rattle.effects.specs.declared.effect.Exact.{Exact}
-use Rattle.effects.specs.declared.effect.Exact.the-variants.{Keep, Result}
+use Rattle.effects.specs.declared.effect.Exact.the-variants.{Keep, Replace}
 use Rattle.effects.proofs.Works.{work-elsewhere}
 use Rattle.machine.specs.Loops.{innerStart, innerPasses, pushed, withPasses, popped}
 use Rattle.machine.specs.Write.{settleOf}
@@ -191,8 +191,8 @@ module _ (whole part : List Operation) (n : ℕ) where
       → settleOf t m e (movedState n s) ≡ record { state = movedState n (settleOf t m e s .state); trap = settleOf t m e s .trap }
   unfolding settleOf
   settled-moved t m Keep s = refl
-  settled-moved t m (Result A r) s = refl
-  settled-moved t m (Result B r) s = refl
+  settled-moved t m (Replace A r) s = refl
+  settled-moved t m (Replace B r) s = refl
 
   completed-moved : (settings : Settings) (m : Mode) (o : Operation) (work : Work) (s : State) (memory : List ℕ) → Ties (s .core .loops)
       → completed whole settings m (movedOperation n o) work (movedState n s) memory ≡ movedStep n (completed part settings m o work s memory)

@@ -14,7 +14,7 @@ use Rattle.operations.specs.declared.operation.Operation.{Operation}
 use Rattle.program.specs.Placement.{roleAt, lastOf}
 use Rattle.state.specs.Accept.{isAround, aroundIn, standIn, isSlot, areLoops}
 use Rattle.state.specs.declared.state.Loops.{Loops}
-use Rattle.machine.proofs.Nested.{startOf, passesOf, Nested}
+use Rattle.machine.proofs.Nested.{slotStart, passesOf, Nested}
 
 -- operation d opens a loop around pc
 abbrev Around : List Operation → ℕ → ℕ → Type 0
@@ -104,10 +104,10 @@ slot-used l i k h =
     let (low, high) = both (leb 1 (passesOf l i)) (leb (passesOf l i) 32768) (rw (lt-ltb i (l .depth) k) at h) in
     (leb-true 1 (passesOf l i) low, leb-true (passesOf l i) 32768 high)
 
-slot-free : (l : Loops) (i : ℕ) → l .depth ≤ i → isSlot l i ≡ true → (startOf l i ≡ 0) × (passesOf l i ≡ 0)
+slot-free : (l : Loops) (i : ℕ) → l .depth ≤ i → isSlot l i ≡ true → (slotStart l i ≡ 0) × (passesOf l i ≡ 0)
 slot-free l i k h =
-    let (start, passes) = both (eqb (startOf l i) 0) (eqb (passesOf l i) 0) (rw (le-ltb i (l .depth) k) at h) in
-    (eqb-true (startOf l i) 0 start, eqb-true (passesOf l i) 0 passes)
+    let (start, passes) = both (eqb (slotStart l i) 0) (eqb (passesOf l i) 0) (rw (le-ltb i (l .depth) k) at h) in
+    (eqb-true (slotStart l i) 0 start, eqb-true (passesOf l i) 0 passes)
 
 -- loops that are accepted are the loops around pc
 pub loops-nested : (p : List Operation) (pc : ℕ) (l : Loops) → length (l .starts) ≡ 4 → length (l .passes) ≡ 4 → areLoops p pc l ≡ true → Nested p pc l
@@ -118,13 +118,13 @@ loops-nested p pc l long long′ h =
     let (few, around) = both (leb (l .depth) 4) (eqb (l .depth) (aroundIn p pc pc)) counted in
     let most : l .depth ≤ 4 = leb-true (l .depth) 4 few in
     let same : l .depth ≡ aroundIn p pc pc = eqb-true _ _ around in
-    let each : (i : ℕ) → i < l .depth → isAround p pc (startOf l i) ≡ true =
+    let each : (i : ℕ) → i < l .depth → isAround p pc (slotStart l i) ≡ true =
     λ i k. stand-each p pc (l .starts) pc stand i (omega arith) .0 in
     record {
       four = (long, long′);
       few = most;
-      begun = λ i k. around-so p pc (startOf l i) (each i k) .0;
-      within = λ i k. around-so p pc (startOf l i) (each i k) .1;
+      begun = λ i k. around-so p pc (slotStart l i) (each i k) .0;
+      within = λ i k. around-so p pc (slotStart l i) (each i k) .1;
       ordered = λ i j a b. stand-order p pc (l .starts) pc stand j (omega arith) i a;
       counted = λ i k. slot-used l i k (each-slot l slots i (omega arith));
       unused = λ i k f. slot-free l i k (each-slot l slots i f);
@@ -140,19 +140,19 @@ module _ (p : List Operation) (pc : ℕ) (l : Loops) (h : Nested p pc l) where
   -- of the active loops the first m are opened before n
   record Counts (n m : ℕ) : Type 0 where
     most : m ≤ l .depth
-    before : (i : ℕ) → i < m → startOf l i < n
-    onward : (i : ℕ) → m ≤ i → i < l .depth → n ≤ startOf l i
+    before : (i : ℕ) → i < m → slotStart l i < n
+    onward : (i : ℕ) → m ≤ i → i < l .depth → n ≤ slotStart l i
     stands : standIn p pc (l .starts) n ≡ true
 
   -- a loop around pc at n is the next
-  next-is : (n m : ℕ) → Counts n m → isAround p pc n ≡ true → (m < l .depth) × (startOf l m ≡ n)
+  next-is : (n m : ℕ) → Counts n m → isAround p pc n ≡ true → (m < l .depth) × (slotStart l m ≡ n)
   next-is n m c a =
       let (lo, hi) = around-so p pc n a in
       let (i, used, is) = h .all n lo hi in
       let not-before : m ≤ i = go i used is (ltb i m) refl in
       ⊎-elim (λ (e : m ≡ i). rw e (used, is)) (λ k. absurd (omega (arith, h .ordered m i k used, c .onward m (omega arith) (omega arith)))) (eq-or-lt-of-le not-before)
     where
-      go : (i : ℕ) → i < l .depth → startOf l i ≡ n → (t : Bool) → ltb i m ≡ t → m ≤ i
+      go : (i : ℕ) → i < l .depth → slotStart l i ≡ n → (t : Bool) → ltb i m ≡ t → m ≤ i
       go i used is true e = absurd (omega (arith, c .before i (ltb-true i m e)))
       go i used is false e = ltb-false i m e
 
@@ -164,9 +164,9 @@ module _ (p : List Operation) (pc : ℕ) (l : Loops) (h : Nested p pc l) where
         most = used;
         before =
             λ i k.
-            ⊎-elim (λ (z : i ≡ m). omega (arith, ap (startOf l) z)) (λ b. omega (arith, c .before i b)) (eq-or-lt-of-le (le-of-suc-le-suc k));
+            ⊎-elim (λ (z : i ≡ m). omega (arith, ap (slotStart l) z)) (λ b. omega (arith, c .before i b)) (eq-or-lt-of-le (le-of-suc-le-suc k));
         onward = λ i k b. omega (arith, h .ordered m i k b);
-        stands = rw (c .stands, e, eq-eqb (startOf l m) n is);
+        stands = rw (c .stands, e, eq-eqb (slotStart l m) n is);
       }
   count-one n false e c =
       let m = aroundIn p pc n in
@@ -176,8 +176,8 @@ module _ (p : List Operation) (pc : ℕ) (l : Loops) (h : Nested p pc l) where
         onward =
             λ i k b.
             ⊎-elim
-            (λ (z : n ≡ startOf l i).
-            absurd (true≢false (sym (so-around p pc (startOf l i) (h .begun i b) (h .within i b)) ∙ ap (isAround p pc) (sym z) ∙ e)))
+            (λ (z : n ≡ slotStart l i).
+            absurd (true≢false (sym (so-around p pc (slotStart l i) (h .begun i b) (h .within i b)) ∙ ap (isAround p pc) (sym z) ∙ e)))
             (λ j. j) (eq-or-lt-of-le (c .onward i k b));
         stands = rw (c .stands, e);
       }
@@ -202,7 +202,7 @@ module _ (p : List Operation) (pc : ℕ) (l : Loops) (h : Nested p pc l) where
       rw (le-leb 1 (passesOf l i) low, le-leb (passesOf l i) 32768 high))
       (λ e.
       let (start, passes) = h .unused i (ltb-false i (l .depth) e) f in
-      rw (eq-eqb (startOf l i) 0 start, eq-eqb (passesOf l i) 0 passes))
+      rw (eq-eqb (slotStart l i) 0 start, eq-eqb (passesOf l i) 0 passes))
 
   -- the loops around pc are accepted
   pub nested-loops : areLoops p pc l ≡ true

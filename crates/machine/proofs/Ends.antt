@@ -17,7 +17,7 @@ use Rattle.program.proofs.Placed.{last-below, repeat-placed}
 use Rattle.state.specs.State.{noLoops}
 use Rattle.state.specs.Accept.{followsRepeat, isRepeatLeft}
 use Rattle.state.specs.declared.state.Core.{Core}
-use Rattle.machine.proofs.Nested.{startOf}
+use Rattle.machine.proofs.Nested.{slotStart}
 use Rattle.machine.proofs.Stands.{Stands}
 
 -- four slots that are zero
@@ -42,12 +42,12 @@ module _ (p : List Operation) (placed : isPlaced p ≡ true) (c : Core) (done : 
       go zero e = refl
       go (suc d) e =
           let some : 0 < c .loops .depth = omega arith in
-          let start : startOf (c .loops) 0 < c .pc = h .nested .begun 0 some in
-          absurd (omega (arith, h .nested .within 0 some, last-below p placed (startOf (c .loops) 0) (omega arith)))
+          let start : slotStart (c .loops) 0 < c .pc = h .nested .begun 0 some in
+          absurd (omega (arith, h .nested .within 0 some, last-below p placed (slotStart (c .loops) 0) (omega arith)))
 
   pub done-loops : c .loops ≡ noLoops
   done-loops =
-      let slot : (i : ℕ) → i < 4 → (startOf (c .loops) i ≡ 0) × (getD (c .loops .passes) i 0 ≡ 0) =
+      let slot : (i : ℕ) → i < 4 → (slotStart (c .loops) i ≡ 0) × (getD (c .loops .passes) i 0 ≡ 0) =
       λ i f. h .nested .unused i (omega (arith, none-active)) f in
       λ i.
       record {

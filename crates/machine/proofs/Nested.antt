@@ -16,8 +16,8 @@ use Rattle.machine.specs.Loops.{innerStart, pushed, withPasses, popped}
 use Rattle.program.proofs.Placed.{LoopPlaced, lasting, loop-placed}
 
 -- DO's number of loop i
-abbrev pub startOf : Loops → ℕ → ℕ
-startOf l i = getD (l .starts) i 0
+abbrev pub slotStart : Loops → ℕ → ℕ
+slotStart l i = getD (l .starts) i 0
 
 -- its passes left
 abbrev pub passesOf : Loops → ℕ → ℕ
@@ -25,7 +25,7 @@ passesOf l i = getD (l .passes) i 0
 
 -- and its last operation
 abbrev pub lastIn : List Operation → Loops → ℕ → ℕ
-lastIn p l i = lastOf (roleAt p (startOf l i))
+lastIn p l i = lastOf (roleAt p (slotStart l i))
 
 -- so many passes may be left
 abbrev pub Passes : ℕ → Type 0
@@ -35,12 +35,12 @@ Passes n = (1 ≤ n) × (n ≤ 32768)
 pub record Nested (p : List Operation) (pc : ℕ) (l : Loops) : Type 0 where
   pub four : (length (l .starts) ≡ 4) × (length (l .passes) ≡ 4)
   pub few : l .depth ≤ 4
-  pub begun : (i : ℕ) → i < l .depth → startOf l i < pc
+  pub begun : (i : ℕ) → i < l .depth → slotStart l i < pc
   pub within : (i : ℕ) → i < l .depth → pc ≤ lastIn p l i
-  pub ordered : (i j : ℕ) → i < j → j < l .depth → startOf l i < startOf l j
+  pub ordered : (i j : ℕ) → i < j → j < l .depth → slotStart l i < slotStart l j
   pub counted : (i : ℕ) → i < l .depth → Passes (passesOf l i)
-  pub unused : (i : ℕ) → l .depth ≤ i → i < 4 → (startOf l i ≡ 0) × (passesOf l i ≡ 0)
-  pub all : (d : ℕ) → d < pc → pc ≤ lastOf (roleAt p d) → (i : ℕ) × (i < l .depth) × (startOf l i ≡ d)
+  pub unused : (i : ℕ) → l .depth ≤ i → i < 4 → (slotStart l i ≡ 0) × (passesOf l i ≡ 0)
+  pub all : (d : ℕ) → d < pc → pc ≤ lastOf (roleAt p d) → (i : ℕ) × (i < l .depth) × (slotStart l i ≡ d)
 
 -- a slot that is set to zero is zero, also past the end
 zeroed : (l : List ℕ) (i : ℕ) → getD (set l i 0) i 0 ≡ 0
@@ -50,18 +50,18 @@ zeroed (x ∷ l) (suc i) = zeroed l i
 
 module _ (p : List Operation) (placed : isPlaced p ≡ true) (pc : ℕ) (l : Loops) (at : pc ≤ length p) (h : Nested p pc l) where
   -- an active loop's DO is one that stands where it may
-  active-loop : (i : ℕ) → i < l .depth → roleAt p (startOf l i) ≡ Looped (lastIn p l i)
-  active-loop i k = lasting (roleAt p (startOf l i)) (omega (arith, h .begun i k, h .within i k))
+  active-loop : (i : ℕ) → i < l .depth → roleAt p (slotStart l i) ≡ Looped (lastIn p l i)
+  active-loop i k = lasting (roleAt p (slotStart l i)) (omega (arith, h .begun i k, h .within i k))
 
-  active-placed : (i : ℕ) → i < l .depth → LoopPlaced p (startOf l i) (lastIn p l i)
-  active-placed i k = loop-placed p placed (startOf l i) (lastIn p l i) (omega (arith, h .begun i k)) (active-loop i k)
+  active-placed : (i : ℕ) → i < l .depth → LoopPlaced p (slotStart l i) (lastIn p l i)
+  active-placed i k = loop-placed p placed (slotStart l i) (lastIn p l i) (omega (arith, h .begun i k)) (active-loop i k)
 
   -- the innermost loop's DO is no REPEAT
   pub inner-loop : 0 < l .depth → isRepeat (roleAt p (innerStart l)) ≡ false
   inner-loop some = ap isRepeat (active-loop (l .depth - 1) (omega arith))
 
   -- what stands inside an active loop ends before it
-  inner-last : (i k : ℕ) → i < l .depth → startOf l i < k → k ≤ pc → lastOf (roleAt p k) < lastIn p l i
+  inner-last : (i k : ℕ) → i < l .depth → slotStart l i < k → k ≤ pc → lastOf (roleAt p k) < lastIn p l i
   inner-last i k a lo hi = active-placed i a .inner k lo (omega (arith, h .within i a))
 
   -- a loop around the innermost DO + 1 is around pc
@@ -69,10 +69,10 @@ module _ (p : List Operation) (placed : isPlaced p ≡ true) (pc : ℕ) (l : Loo
   outer-around some d lo hi =
       let inner = l .depth - 1 in
       let last : inner < l .depth = omega arith in
-      let before : startOf l inner < pc = h .begun inner last in
+      let before : slotStart l inner < pc = h .begun inner last in
       let some-last : 0 < lastOf (roleAt p d) = omega arith in
       let q = loop-placed p placed d (lastOf (roleAt p d)) (omega arith) (lasting (roleAt p d) some-last) in
-      omega (arith, h .within inner last, q .inner (startOf l inner) lo (omega arith))
+      omega (arith, h .within inner last, q .inner (slotStart l inner) lo (omega arith))
 
   -- a REPEAT at pc is no active loop's last
   pub repeat-inside : roleAt p pc ≡ Repeats → (i : ℕ) → i < l .depth → pc < lastIn p l i
@@ -98,7 +98,7 @@ module _ (p : List Operation) (placed : isPlaced p ≡ true) (pc : ℕ) (l : Loo
       (λ (z : suc i ≡ l .depth).
       let same : i ≡ inner = omega arith in
       rw same before)
-      (λ more. omega (arith, before, inner-last i (startOf l inner) k (h .ordered i inner (omega arith) last) (omega (arith, h .begun inner last))))
+      (λ more. omega (arith, before, inner-last i (slotStart l inner) k (h .ordered i inner (omega arith) last) (omega (arith, h .begun inner last))))
       (eq-or-lt-of-le k)
 
   -- ---- what keeps it
@@ -143,7 +143,7 @@ module _ (p : List Operation) (placed : isPlaced p ≡ true) (pc : ℕ) (l : Loo
         unused = h .unused;
         all =
             λ d lo hi.
-            let most : d ≤ startOf l inner = omega arith in
+            let most : d ≤ slotStart l inner = omega arith in
             ⊎-elim (λ e. (inner, last, sym e))
             (λ k. h .all d (omega (arith, h .begun inner last)) (outer-around some d k hi)) (eq-or-lt-of-le most);
       }
@@ -176,19 +176,19 @@ module _ (p : List Operation) (placed : isPlaced p ≡ true) (pc : ℕ) (l : Loo
     abbrev more : Loops
     more = pushed l pc n
 
-    pushed-other : (i : ℕ) → (i ≡ l .depth → ⊥) → (startOf more i ≡ startOf l i) × (passesOf more i ≡ passesOf l i)
+    pushed-other : (i : ℕ) → (i ≡ l .depth → ⊥) → (slotStart more i ≡ slotStart l i) × (passesOf more i ≡ passesOf l i)
     unfolding pushed
     pushed-other i e = (getD-set-other (l .starts) (l .depth) i pc 0 e, getD-set-other (l .passes) (l .depth) i n 0 e)
 
-    pushed-same : (startOf more (l .depth) ≡ pc) × (passesOf more (l .depth) ≡ n)
+    pushed-same : (slotStart more (l .depth) ≡ pc) × (passesOf more (l .depth) ≡ n)
     unfolding pushed
     pushed-same =
         let (a, b) = h .four in
         (getD-set-same (l .starts) (l .depth) pc 0 (omega arith), getD-set-same (l .passes) (l .depth) n 0 (omega arith))
 
     -- a slot in use is the new one or an old one
-    pushed-slot : (P : ℕ → ℕ → Type 0) → P pc n → (i : ℕ) → (i < l .depth → P (startOf l i) (passesOf l i)) → i < more .depth
-        → P (startOf more i) (passesOf more i)
+    pushed-slot : (P : ℕ → ℕ → Type 0) → P pc n → (i : ℕ) → (i < l .depth → P (slotStart l i) (passesOf l i)) → i < more .depth
+        → P (slotStart more i) (passesOf more i)
     unfolding pushed
     pushed-slot P new i old k =
         let most : i ≤ l .depth = omega arith in
@@ -211,9 +211,9 @@ module _ (p : List Operation) (placed : isPlaced p ≡ true) (pc : ℕ) (l : Loo
               (λ a. omega (arith, do-inside m e i a)) k;
           ordered =
               λ i j a b.
-              let old : startOf more i ≡ startOf l i = pushed-other i (λ z. omega (arith, b)) .0 in
+              let old : slotStart more i ≡ slotStart l i = pushed-other i (λ z. omega (arith, b)) .0 in
               rw old
-              (pushed-slot (λ s t. startOf l i < s) (h .begun i (omega (arith, b))) j (λ k. h .ordered i j a k) b);
+              (pushed-slot (λ s t. slotStart l i < s) (h .begun i (omega (arith, b))) j (λ k. h .ordered i j a k) b);
           counted = λ i k. pushed-slot (λ s t. Passes t) good i (h .counted i) k;
           unused =
               λ i k f.
@@ -235,7 +235,7 @@ module _ (p : List Operation) (placed : isPlaced p ≡ true) (pc : ℕ) (l : Loo
     abbrev fewer : Loops
     fewer = popped l
 
-    popped-other : (i : ℕ) → (i ≡ l .depth - 1 → ⊥) → (startOf fewer i ≡ startOf l i) × (passesOf fewer i ≡ passesOf l i)
+    popped-other : (i : ℕ) → (i ≡ l .depth - 1 → ⊥) → (slotStart fewer i ≡ slotStart l i) × (passesOf fewer i ≡ passesOf l i)
     unfolding popped
     popped-other i e = (getD-set-other (l .starts) (l .depth - 1) i 0 0 e, getD-set-other (l .passes) (l .depth - 1) i 0 0 e)
 
@@ -252,7 +252,7 @@ module _ (p : List Operation) (placed : isPlaced p ≡ true) (pc : ℕ) (l : Loo
           within =
               λ i k.
               rw (popped-other i (λ z. omega arith) .0)
-              (omega (arith, inner-last i (startOf l inner) (omega arith) (h .ordered i inner (omega arith) last) (omega (arith, h .begun inner last))));
+              (omega (arith, inner-last i (slotStart l inner) (omega arith) (h .ordered i inner (omega arith) last) (omega (arith, h .begun inner last))));
           ordered =
               λ i j a b.
               omega (arith, popped-other i (λ z. omega arith) .0, popped-other j (λ z. omega arith) .0, h .ordered i j a (omega arith));
@@ -270,6 +270,6 @@ module _ (p : List Operation) (placed : isPlaced p ≡ true) (pc : ℕ) (l : Loo
               λ d lo hi.
               let (i, a, q) = h .all d (around-before plain d lo hi) (omega arith) in
               let most′ : i ≤ inner = omega arith in
-              ⊎-elim (λ (z : i ≡ inner). absurd (omega (arith, e, ap (λ (j : ℕ). lastOf (roleAt p j)) (ap (startOf l) (sym z) ∙ q))))
+              ⊎-elim (λ (z : i ≡ inner). absurd (omega (arith, e, ap (λ (j : ℕ). lastOf (roleAt p j)) (ap (slotStart l) (sym z) ∙ q))))
               (λ k. (i, k, popped-other i (λ y. omega arith) .0 ∙ q)) (eq-or-lt-of-le most′);
         }

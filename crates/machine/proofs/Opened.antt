@@ -11,7 +11,7 @@ use Rattle.accumulator.specs.Shift.{shiftOf, shiftAllowed}
 use Rattle.accumulator.specs.Store.{isOdd, roundsUp, roundedOf, needsLimiting, storedWord, storeOf}
 use Rattle.address.specs.Word.{wordOf}
 use Rattle.address.specs.Region.{isInside, accessTrap}
-use Rattle.address.specs.Step.{sumOf, steppedOf, correctedOf, circularOf}
+use Rattle.address.specs.Step.{addressSum, steppedOf, correctedOf, circularOf}
 use Rattle.address.specs.Reversal.{rev, widthUpTo, widthOf, indexOf, nextIndex, nextOf}
 use Rattle.operations.specs.declared.operation.Operation.{Operation}
 use Rattle.state.specs.Settings.{trapsOverflow, trapsLeft}
@@ -33,7 +33,7 @@ unfolding stepped completed workOf macWork macAccesses macExact macRegisters exa
     operandAccess prefetchAccess backAccess wordAt changed movedOf stepOf raisedOf changeOf
     settleOf trapAfter trapsOverflow trapsLeft valueWord putRegister putMemory
     stateControlled controlled controlOf endedEarly entered repeated advanced fallen pushed withPasses popped
-    wordOf isInside accessTrap sumOf steppedOf correctedOf circularOf rev widthUpTo widthOf indexOf nextIndex nextOf
+    wordOf isInside accessTrap addressSum steppedOf correctedOf circularOf rev widthUpTo widthOf indexOf nextIndex nextOf
     modeOf saturates readOf productOf limitBits hasLeft keptOf overflows writeOf shiftOf shiftAllowed
     isOdd roundsUp roundedOf needsLimiting storedWord storeOf
     remainderOf lowBits signedOf lowest highest outside nearer limitedTo

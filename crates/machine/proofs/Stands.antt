@@ -33,7 +33,7 @@ use Rattle.state.specs.declared.state.State.{State}
 use Rattle.effects.specs.Effect.{Work}
 use Rattle.effects.specs.Operations.{workOf}
 use Rattle.effects.specs.declared.effect.Exact.{Exact}
-use Rattle.effects.specs.declared.effect.Exact.the-variants.{Keep, Result}
+use Rattle.effects.specs.declared.effect.Exact.the-variants.{Keep, Replace}
 use Rattle.machine.specs.Loops.{innerStart, innerPasses, pushed, withPasses, popped}
 use Rattle.machine.specs.Write.{settleOf, valueWord}
 use Rattle.machine.specs.Control.{innerLast, isNearLast, fallen, advanced, repeated, entered, endedEarly, controlOf, controlled, begins, stateControlled}
@@ -48,7 +48,7 @@ use Rattle.machine.proofs.Order.{withSums}
 use Rattle.machine.proofs.Places.{work-fitted}
 use Rattle.state.specs.Typed.{AreWords, Typed}
 use Rattle.program.proofs.Placed.{role-is}
-use Rattle.machine.proofs.Nested.{startOf, Passes, Nested, inner-loop, repeat-inside, plain-inside, nested-next, nested-back, nested-passes, nested-pushed, nested-popped}
+use Rattle.machine.proofs.Nested.{slotStart, Passes, Nested, inner-loop, repeat-inside, plain-inside, nested-next, nested-back, nested-passes, nested-pushed, nested-popped}
 use Rattle.machine.proofs.Around.{loops-nested, nested-loops}
 use Rattle.machine.proofs.Words.{put-long, put-register}
 
@@ -88,7 +88,7 @@ stands-accepted p s h =
 pub stands-ready : (p : List Operation) (c : Core) → Stands p c → c .pc < length p → Ready (length p) (c .pc) (c .loops .depth) (c .loops .starts)
 stands-ready p c h l = record { at = l; few = h .nested .few; known = λ i f. known i f (ltb i (c .loops .depth)) refl }
   where
-    known : (i : ℕ) → i < 4 → (t : Bool) → ltb i (c .loops .depth) ≡ t → startOf (c .loops) i < length p
+    known : (i : ℕ) → i < 4 → (t : Bool) → ltb i (c .loops .depth) ≡ t → slotStart (c .loops) i < length p
     known i f true e = omega (arith, h .nested .begun i (ltb-true i (c .loops .depth) e))
     known i f false e = omega (arith, h .nested .unused i (ltb-false i (c .loops .depth) e) f)
 
@@ -264,8 +264,8 @@ module _ (p : List Operation) (placed : isPlaced p ≡ true) where
   settled-stands : (t : ℕ) (m : Mode) (e : Exact) (s : State) → Stands p (s .core) → Stands p (settleOf t m e s .state .core)
   unfolding settleOf writeOf
   settled-stands t m Keep s h = h
-  settled-stands t m (Result A r) s h = summed (s .core) _ _ _ _ h (within-accumulator (keptOf m A r) (kept-within m A r)) (h .b)
-  settled-stands t m (Result B r) s h = summed (s .core) _ _ _ _ h (h .a) (within-accumulator (keptOf m B r) (kept-within m B r))
+  settled-stands t m (Replace A r) s h = summed (s .core) _ _ _ _ h (within-accumulator (keptOf m A r) (kept-within m A r)) (h .b)
+  settled-stands t m (Replace B r) s h = summed (s .core) _ _ _ _ h (h .a) (within-accumulator (keptOf m B r) (kept-within m B r))
 
   completed-stands : (settings : Settings) (m : Mode) (o : Operation) (work : Work) (s : State) (memory : List ℕ)
       → Stands p (s .core) → Stands p (stateAfter m work s .core) → s .core .pc < length p → Suits (controlOf o) (roleAt p (s .core .pc))

@@ -3,8 +3,9 @@ use Prim.Native.Nat.{ℕ, zero, suc, _+_, _-_, _^_}
 use mathlib.Core.Path.{_≡_, refl}
 use mathlib.Core.Bool.{Bool, true, false}
 use mathlib.Core.List.{List, [], _∷_, map}
-use lib.IntN.{ℤ, pos, negsuc}
+use lib.IntN.{ℤ, pos}
 use lib.ListN.{getD, set, replicate}
+use Rattle.integers.specs.Range.{minus}
 use Rattle.accumulator.specs.Mode.{modeOf}
 use Rattle.accumulator.specs.declared.mode.Target.{Target}
 use Rattle.accumulator.specs.declared.mode.Target.the-variants.{A, B}
@@ -146,22 +147,22 @@ products :
     × (alone (bare Mpy B 6 7) start ≡ goes (start but at 1 but inB (pos 544)) memory)
     × (alone (bare Mac A 4 5) start ≡ goes (start but at 1 but inA (pos 423)) memory)
     × (alone (bare Mac B 6 7) start ≡ goes (start but at 1 but inB (pos 549)) memory)
-    × (alone (bare Msc A 4 5) start ≡ goes (start but at 1 but inA (negsuc 416)) memory)
-    × (alone (bare Msc B 6 7) start ≡ goes (start but at 1 but inB (negsuc 538)) memory)
+    × (alone (bare Msc A 4 5) start ≡ goes (start but at 1 but inA (minus 417)) memory)
+    × (alone (bare Msc B 6 7) start ≡ goes (start but at 1 but inB (minus 539)) memory)
 unfolding after
 products = (refl, refl, refl, refl, refl, refl)
 
 -- FFFF hex × 2: signed and unsigned by US, doubled with IF 0
 signs :
     map (λ (m : ℕ). alone (bare Mpy A 4 5) (start but by m but reg 4 0xffff but reg 5 2) .state .core .a) (0x20 ∷ 0x21 ∷ 0x1020 ∷ 0x1021 ∷ [])
-    ≡ negsuc 3 ∷ negsuc 1 ∷ pos 262140 ∷ pos 131070 ∷ []
+    ≡ minus 4 ∷ minus 2 ∷ pos 262140 ∷ pos 131070 ∷ []
 unfolding after
 signs = refl
 
 -- row A: 3 × -2 from the reset state: -12, after three steps
 pub row-a :
     steps 3 (Literal 4 3 ∷ Literal 5 0xfffe ∷ bare Mpy A 4 5 ∷ []) resetState memory
-    ≡ goes (start but at 3 but inA (negsuc 11) but inB (pos 0) but zeros but reg 4 3 but reg 5 0xfffe) memory
+    ≡ goes (start but at 3 but inA (minus 12) but inB (pos 0) but zeros but reg 4 3 but reg 5 0xfffe) memory
 unfolding after resetState
 row-a = refl
 
@@ -183,18 +184,18 @@ row-c = refl
 
 -- MAC A: old factors, two reads, two pointers, and B, -1.5 rounded to -2, written back to memory, all in one step
 mac-a :
-    alone (mac Mac A 4 5 (Pointer 8 5) 4 (Pointer 10 2) 5 ToMemory) (start but inA (pos 1000) but inB (negsuc 98303))
+    alone (mac Mac A 4 5 (Pointer 8 5) 4 (Pointer 10 2) 5 ToMemory) (start but inA (pos 1000) but inB (minus 98304))
     ≡ goes
-    (start but at 1 but inA (pos 1420) but inB (negsuc 98303) but reg 4 101 but reg 5 108 but reg 8 0x1006 but reg 10 0x100e but reg 13 0x1016)
+    (start but at 1 but inA (pos 1420) but inB (minus 98304) but reg 4 101 but reg 5 108 but reg 8 0x1006 but reg 10 0x100e but reg 13 0x1016)
     (set memory 10 0xfffe)
 unfolding after
 mac-a = refl
 
 -- MAC B: the same with W9 and W11, which leaves memory, and A, 3.5 rounded to 4
 mac-b :
-    alone (mac Mac B 6 7 (Pointer 9 1) 7 (Pointer 11 6) 6 ToMemory) (start but inA (pos 229376) but inB (negsuc 999))
+    alone (mac Mac B 6 7 (Pointer 9 1) 7 (Pointer 11 6) 6 ToMemory) (start but inA (pos 229376) but inB (minus 1000))
     ≡ goes
-    (start but at 1 but inA (pos 229376) but inB (negsuc 455) but reg 6 109 but reg 7 102 but reg 9 0x1000 but reg 11 0x1018 but reg 13 0x1016)
+    (start but at 1 but inA (pos 229376) but inB (minus 456) but reg 6 109 but reg 7 102 but reg 9 0x1000 but reg 11 0x1018 but reg 13 0x1016)
     (set memory 10 4)
 unfolding after
 mac-b = refl
@@ -202,7 +203,7 @@ mac-b = refl
 -- MSC A by 17 × 14 with a Y read to a factor, and B, 5, written back to W13
 msc-a :
     alone (mac Msc A 7 4 NoRead 0 (Pointer 10 4) 4 ToRegister) (start but inB (pos 327680))
-    ≡ goes (start but at 1 but inA (negsuc 472) but inB (pos 327680) but reg 4 108 but reg 10 0x1012 but reg 13 5) memory
+    ≡ goes (start but at 1 but inA (minus 473) but inB (pos 327680) but reg 4 108 but reg 10 0x1012 but reg 13 5) memory
 unfolding after
 msc-a = refl
 
@@ -279,10 +280,10 @@ back m v = regOf 13 (alone (mac Clr A 0 0 NoRead 0 NoRead 0 ToRegister) (start b
 
 -- write-back is a rounded store: 0.5, 1.5, -0.5, -1.5 with RND 0 and 1; row E and -32,769 with SATDW and without
 backs :
-    (map (back 0x20) (pos 32768 ∷ pos 98304 ∷ negsuc 32767 ∷ negsuc 98303 ∷ []) ≡ 0 ∷ 2 ∷ 0 ∷ 0xfffe ∷ [])
-    × (map (back 0x22) (pos 32768 ∷ pos 98304 ∷ negsuc 32767 ∷ negsuc 98303 ∷ []) ≡ 1 ∷ 2 ∷ 0 ∷ 0xffff ∷ [])
-    × (map (back 0x20) (pos 2147450880 ∷ negsuc 2147549183 ∷ []) ≡ 0x7fff ∷ 0x8000 ∷ [])
-    × (map (back 0) (pos 2147450880 ∷ negsuc 2147549183 ∷ []) ≡ 0x8000 ∷ 0x7fff ∷ [])
+    (map (back 0x20) (pos 32768 ∷ pos 98304 ∷ minus 32768 ∷ minus 98304 ∷ []) ≡ 0 ∷ 2 ∷ 0 ∷ 0xfffe ∷ [])
+    × (map (back 0x22) (pos 32768 ∷ pos 98304 ∷ minus 32768 ∷ minus 98304 ∷ []) ≡ 1 ∷ 2 ∷ 0 ∷ 0xffff ∷ [])
+    × (map (back 0x20) (pos 2147450880 ∷ minus 2147549184 ∷ []) ≡ 0x7fff ∷ 0x8000 ∷ [])
+    × (map (back 0) (pos 2147450880 ∷ minus 2147549184 ∷ []) ≡ 0x8000 ∷ 0x7fff ∷ [])
 unfolding after
 backs = (refl, refl, refl, refl)
 
@@ -301,10 +302,10 @@ pointers = (refl, refl)
 arithmetic :
     (alone (AddAccumulators A) start ≡ goes (start but at 1 but inA (pos 8)) memory)
     × (alone (AddAccumulators B) start ≡ goes (start but at 1 but inB (pos 8)) memory)
-    × (alone (Subtract A) start ≡ goes (start but at 1 but inA (negsuc 1)) memory)
+    × (alone (Subtract A) start ≡ goes (start but at 1 but inA (minus 2)) memory)
     × (alone (Subtract B) start ≡ goes (start but at 1 but inB (pos 2)) memory)
-    × (alone (Negate A) start ≡ goes (start but at 1 but inA (negsuc 2)) memory)
-    × (alone (Negate B) start ≡ goes (start but at 1 but inB (negsuc 4)) memory)
+    × (alone (Negate A) start ≡ goes (start but at 1 but inA (minus 3)) memory)
+    × (alone (Negate B) start ≡ goes (start but at 1 but inB (minus 5)) memory)
 unfolding after
 arithmetic = (refl, refl, refl, refl, refl, refl)
 
@@ -329,8 +330,8 @@ limits-of = (refl, refl, refl, refl)
 limits-31 :
     (added A 0x80 (pos (2 ^ 31 - 2)) (pos 1) ≡ (pos (2 ^ 31 - 1), pos 1, false, false, false, false))
     × (added A 0x80 (pos (2 ^ 31 - 1)) (pos 1) ≡ (pos (2 ^ 31 - 1), pos 1, false, false, true, false))
-    × (added A 0x80 (negsuc (2 ^ 31 - 2)) (negsuc 0) ≡ (negsuc (2 ^ 31 - 1), negsuc 0, false, false, false, false))
-    × (added A 0x80 (negsuc (2 ^ 31 - 1)) (negsuc 0) ≡ (negsuc (2 ^ 31 - 1), negsuc 0, false, false, true, false))
+    × (added A 0x80 (minus (2 ^ 31 - 1)) (minus 1) ≡ (minus (2 ^ 31), minus 1, false, false, false, false))
+    × (added A 0x80 (minus (2 ^ 31)) (minus 1) ≡ (minus (2 ^ 31), minus 1, false, false, true, false))
 unfolding after
 limits-31 = (refl, refl, refl, refl)
 
@@ -339,7 +340,7 @@ limits-39 :
     (added A 0x90 (pos (2 ^ 31 - 1)) (pos 1) ≡ (pos (2 ^ 31), pos 1, true, false, false, false))
     × (added A 0x90 (pos (2 ^ 39 - 2)) (pos 1) ≡ (pos (2 ^ 39 - 1), pos 1, true, false, false, false))
     × (added A 0x90 (pos (2 ^ 39 - 1)) (pos 1) ≡ (pos (2 ^ 39 - 1), pos 1, true, false, true, false))
-    × (added A 0x90 (negsuc (2 ^ 39 - 1)) (negsuc 0) ≡ (negsuc (2 ^ 39 - 1), negsuc 0, true, false, true, false))
+    × (added A 0x90 (minus (2 ^ 39)) (minus 1) ≡ (minus (2 ^ 39), minus 1, true, false, true, false))
     × (added B 0x50 (pos 1) (pos (2 ^ 39 - 1)) ≡ (pos 1, pos (2 ^ 39 - 1), false, true, false, true))
 unfolding after
 limits-39 = (refl, refl, refl, refl, refl)
@@ -347,19 +348,19 @@ limits-39 = (refl, refl, refl, refl, refl)
 -- saturation off, with ACCSAT too: within 2^39, and beyond it the low 40 bits; O by the value kept
 unlimited :
     (added A 0x20 (pos (2 ^ 31 - 2)) (pos 1) ≡ (pos (2 ^ 31 - 1), pos 1, false, false, false, false))
-    × (added A 0x20 (negsuc (2 ^ 31 - 1)) (negsuc 0) ≡ (negsuc (2 ^ 31), negsuc 0, true, false, false, false))
+    × (added A 0x20 (minus (2 ^ 31)) (minus 1) ≡ (minus (2 ^ 31 + 1), minus 1, true, false, false, false))
     × (added A 0x20 (pos (2 ^ 39 - 2)) (pos 1) ≡ (pos (2 ^ 39 - 1), pos 1, true, false, false, false))
-    × (added A 0x20 (negsuc (2 ^ 39 - 2)) (negsuc 0) ≡ (negsuc (2 ^ 39 - 1), negsuc 0, true, false, false, false))
-    × (added A 0x20 (negsuc (2 ^ 39 - 1)) (negsuc 0) ≡ (pos (2 ^ 39 - 1), negsuc 0, true, false, true, false))
-    × (added B 0x10 (pos (2 ^ 39 - 1)) (pos 1) ≡ (pos (2 ^ 39 - 1), negsuc (2 ^ 39 - 1), false, true, false, true))
-    × (added A 0x20 (pos (2 ^ 39 - 1)) (pos (2 ^ 39 - 1)) ≡ (negsuc 1, pos (2 ^ 39 - 1), false, false, true, false))
+    × (added A 0x20 (minus (2 ^ 39 - 1)) (minus 1) ≡ (minus (2 ^ 39), minus 1, true, false, false, false))
+    × (added A 0x20 (minus (2 ^ 39)) (minus 1) ≡ (pos (2 ^ 39 - 1), minus 1, true, false, true, false))
+    × (added B 0x10 (pos (2 ^ 39 - 1)) (pos 1) ≡ (pos (2 ^ 39 - 1), minus (2 ^ 39), false, true, false, true))
+    × (added A 0x20 (pos (2 ^ 39 - 1)) (pos (2 ^ 39 - 1)) ≡ (minus 2, pos (2 ^ 39 - 1), false, false, true, false))
 unfolding after
 unlimited = (refl, refl, refl, refl, refl, refl, refl)
 
 -- row F: 2^39 - 1 plus 1 with ACCSAT 1, and off; S both
 pub row-f :
     (added A 0x90 (pos (2 ^ 39 - 1)) (pos 1) ≡ (pos (2 ^ 39 - 1), pos 1, true, false, true, false))
-    × (added A 0x20 (pos (2 ^ 39 - 1)) (pos 1) ≡ (negsuc (2 ^ 39 - 1), pos 1, true, false, true, false))
+    × (added A 0x20 (pos (2 ^ 39 - 1)) (pos 1) ≡ (minus (2 ^ 39), pos 1, true, false, true, false))
 unfolding after
 row-f = (refl, refl)
 
@@ -372,26 +373,26 @@ stays = (refl, refl)
 
 -- each accumulator has its own S: SA alone and SB alone before A is written, and before B is
 own-flags :
-    (alone (Negate A) (start but flags false false true false) ≡ goes (start but at 1 but inA (negsuc 2) but flags false false true false) memory)
-    × (alone (Negate A) (start but flags false false false true) ≡ goes (start but at 1 but inA (negsuc 2) but flags false false false true) memory)
-    × (alone (Negate B) (start but flags false false true false) ≡ goes (start but at 1 but inB (negsuc 4) but flags false false true false) memory)
-    × (alone (Negate B) (start but flags false false false true) ≡ goes (start but at 1 but inB (negsuc 4) but flags false false false true) memory)
+    (alone (Negate A) (start but flags false false true false) ≡ goes (start but at 1 but inA (minus 3) but flags false false true false) memory)
+    × (alone (Negate A) (start but flags false false false true) ≡ goes (start but at 1 but inA (minus 3) but flags false false false true) memory)
+    × (alone (Negate B) (start but flags false false true false) ≡ goes (start but at 1 but inB (minus 5) but flags false false true false) memory)
+    × (alone (Negate B) (start but flags false false false true) ≡ goes (start but at 1 but inB (minus 5) but flags false false false true) memory)
 unfolding after
 own-flags = (refl, refl, refl, refl)
 
 -- 10 negate of -2^39: 2^39 is outside; off, ACCSAT 1, ACCSAT 0
 negations :
-    (kept (Negate A) (start but inA (negsuc (2 ^ 39 - 1))) ≡ (negsuc (2 ^ 39 - 1), pos 5, true, false, true, false))
-    × (kept (Negate A) (start but by 0x90 but inA (negsuc (2 ^ 39 - 1))) ≡ (pos (2 ^ 39 - 1), pos 5, true, false, true, false))
-    × (kept (Negate A) (start but by 0x80 but inA (negsuc (2 ^ 39 - 1))) ≡ (pos (2 ^ 31 - 1), pos 5, false, false, true, false))
-    × (kept (Negate B) (start but inB (negsuc (2 ^ 39 - 1))) ≡ (pos 3, negsuc (2 ^ 39 - 1), false, true, false, true))
+    (kept (Negate A) (start but inA (minus (2 ^ 39))) ≡ (minus (2 ^ 39), pos 5, true, false, true, false))
+    × (kept (Negate A) (start but by 0x90 but inA (minus (2 ^ 39))) ≡ (pos (2 ^ 39 - 1), pos 5, true, false, true, false))
+    × (kept (Negate A) (start but by 0x80 but inA (minus (2 ^ 39))) ≡ (pos (2 ^ 31 - 1), pos 5, false, false, true, false))
+    × (kept (Negate B) (start but inB (minus (2 ^ 39))) ≡ (pos 3, minus (2 ^ 39), false, true, false, true))
 unfolding after
 negations = (refl, refl, refl, refl)
 
 -- 11 shift of -5 by 0, 1, 2, 3, 16, -1, -16: to the right with the floor, to the left exact
 shifts :
-    map (λ (n : ℕ). alone (Shift A 0) (start but inA (negsuc 4) but reg 0 n) .state .core .a) (0 ∷ 1 ∷ 2 ∷ 3 ∷ 16 ∷ 0xffff ∷ 0xfff0 ∷ [])
-    ≡ negsuc 4 ∷ negsuc 2 ∷ negsuc 1 ∷ negsuc 0 ∷ negsuc 0 ∷ negsuc 9 ∷ negsuc 327679 ∷ []
+    map (λ (n : ℕ). alone (Shift A 0) (start but inA (minus 5) but reg 0 n) .state .core .a) (0 ∷ 1 ∷ 2 ∷ 3 ∷ 16 ∷ 0xffff ∷ 0xfff0 ∷ [])
+    ≡ minus 5 ∷ minus 3 ∷ minus 2 ∷ minus 1 ∷ minus 1 ∷ minus 10 ∷ minus 327680 ∷ []
 unfolding after
 shifts = refl
 
@@ -408,14 +409,14 @@ shift-traps = refl
 
 -- row L: -1 shifted 16: -1; 17: trap 3, and nothing changes
 pub row-l :
-    (alone (Shift A 0) (start but inA (negsuc 0) but reg 0 16) ≡ goes (start but at 1 but inA (negsuc 0) but reg 0 16) memory)
-    × (alone (Shift A 0) (start but inA (negsuc 0) but reg 0 17) ≡ stops 3 (start but inA (negsuc 0) but reg 0 17) memory)
+    (alone (Shift A 0) (start but inA (minus 1) but reg 0 16) ≡ goes (start but at 1 but inA (minus 1) but reg 0 16) memory)
+    × (alone (Shift A 0) (start but inA (minus 1) but reg 0 17) ≡ stops 3 (start but inA (minus 1) but reg 0 17) memory)
 unfolding after
 row-l = (refl, refl)
 
 -- to the left past the limits: 2^38 by -1, 2^31 by -16; to the right with SATA from beyond the limits: 2^33 by 1, and 2^32 - 1 by 1 to its edge
 shift-limits :
-    (kept (Shift A 0) (start but inA (pos (2 ^ 38)) but reg 0 0xffff) ≡ (negsuc (2 ^ 39 - 1), pos 5, true, false, true, false))
+    (kept (Shift A 0) (start but inA (pos (2 ^ 38)) but reg 0 0xffff) ≡ (minus (2 ^ 39), pos 5, true, false, true, false))
     × (kept (Shift A 0) (start but inA (pos (2 ^ 31)) but reg 0 0xfff0) ≡ (pos 0, pos 5, false, false, true, false))
     × (kept (Shift A 0) (start but by 0x80 but inA (pos (2 ^ 33)) but reg 0 1) ≡ (pos (2 ^ 31 - 1), pos 5, false, false, true, false))
     × (kept (Shift A 0) (start but by 0x80 but inA (pos (2 ^ 32 - 1)) but reg 0 1) ≡ (pos (2 ^ 31 - 1), pos 5, false, false, false, false))
@@ -427,16 +428,16 @@ shift-limits = (refl, refl, refl, refl)
 -- 12 LAC of -3 with b2 = 0, 7, 8, 9, 15, which is a shift by -8, -1, 0, 1, 7; signed with US 1 too
 lac-shifts :
     (map (λ (b2 : ℕ). alone (Lac A b2 (Direct 3)) (start but reg 3 0xfffd) .state .core .a) (0 ∷ 7 ∷ 8 ∷ 9 ∷ 15 ∷ [])
-    ≡ negsuc 50331647 ∷ negsuc 393215 ∷ negsuc 196607 ∷ negsuc 98303 ∷ negsuc 1535 ∷ [])
-    × (alone (Lac B 8 (Direct 3)) (start but by 0x1021 but reg 3 0xffff) ≡ goes (start but at 1 but by 0x1021 but reg 3 0xffff but inB (negsuc 65535)) memory)
+    ≡ minus 50331648 ∷ minus 393216 ∷ minus 196608 ∷ minus 98304 ∷ minus 1536 ∷ [])
+    × (alone (Lac B 8 (Direct 3)) (start but by 0x1021 but reg 3 0xffff) ≡ goes (start but at 1 but by 0x1021 but reg 3 0xffff but inB (minus 65536)) memory)
 unfolding after
 lac-shifts = (refl, refl)
 
 -- LAC of 8000 hex: -2^39 is within the limits; with SATA -2^31 is, and -2^32 is not
 lac-limits :
-    (kept (Lac A 0 (Direct 3)) (start but reg 3 0x8000) ≡ (negsuc (2 ^ 39 - 1), pos 5, true, false, false, false))
-    × (kept (Lac A 8 (Direct 3)) (start but by 0x80 but reg 3 0x8000) ≡ (negsuc (2 ^ 31 - 1), pos 5, false, false, false, false))
-    × (kept (Lac A 7 (Direct 3)) (start but by 0x80 but reg 3 0x8000) ≡ (negsuc (2 ^ 31 - 1), pos 5, false, false, true, false))
+    (kept (Lac A 0 (Direct 3)) (start but reg 3 0x8000) ≡ (minus (2 ^ 39), pos 5, true, false, false, false))
+    × (kept (Lac A 8 (Direct 3)) (start but by 0x80 but reg 3 0x8000) ≡ (minus (2 ^ 31), pos 5, false, false, false, false))
+    × (kept (Lac A 7 (Direct 3)) (start but by 0x80 but reg 3 0x8000) ≡ (minus (2 ^ 31), pos 5, false, false, true, false))
 unfolding after
 lac-limits = (refl, refl, refl)
 
@@ -454,7 +455,7 @@ adds :
     × (alone (Add B 0 (Direct 2)) start ≡ goes (start but at 1 but inB (pos 201326597)) memory)
     × (alone (Add A 10 (Pointed 8 Increment)) start ≡ goes (start but at 1 but inA (pos 1654787) but reg 8 0x1004) memory)
     × (alone (Add A 8 (Pointed 10 Decrement)) start ≡ goes (start but at 1 but inA (pos 7077891) but reg 10 0x100e) memory)
-    × (alone (Add A 8 (Direct 3)) (start but reg 3 0xffff) ≡ goes (start but at 1 but inA (negsuc 65532) but reg 3 0xffff) memory)
+    × (alone (Add A 8 (Direct 3)) (start but reg 3 0xffff) ≡ goes (start but at 1 but inA (minus 65533) but reg 3 0xffff) memory)
 unfolding after
 adds = (refl, refl, refl, refl, refl)
 
@@ -462,7 +463,7 @@ adds = (refl, refl, refl, refl, refl)
 sacs :
     (alone (Sac A 8 (Direct 3)) (start but inA (pos 196607)) ≡ goes (start but at 1 but inA (pos 196607) but reg 3 2) memory)
     × (alone (SacR A 8 (Direct 3)) (start but inA (pos 196607)) ≡ goes (start but at 1 but inA (pos 196607) but reg 3 3) memory)
-    × (alone (Sac A 8 (Pointed 8 Stays)) (start but inA (negsuc 0)) ≡ goes (start but at 1 but inA (negsuc 0)) (set memory 1 0xffff))
+    × (alone (Sac A 8 (Pointed 8 Stays)) (start but inA (minus 1)) ≡ goes (start but at 1 but inA (minus 1)) (set memory 1 0xffff))
     × (alone (Sac B 9 (Pointed 10 Increment)) (start but inB (pos 327680)) ≡ goes (start but at 1 but inB (pos 327680) but reg 10 0x1012) (set memory 8 2))
     × (alone (SacR B 9 (Pointed 10 Decrement)) (start but by 0x22 but inB (pos 327680))
     ≡ goes (start but at 1 but by 0x22 but inB (pos 327680) but reg 10 0x100e) (set memory 8 3))
@@ -480,7 +481,7 @@ rounded m b2 v = regOf 3 (alone (SacR A b2 (Direct 3)) (start but by m but inA v
 
 -- about the ties 0.5, 1.5, -0.5, -1.5
 abbrev ties : List ℤ
-ties = pos 32767 ∷ pos 32768 ∷ pos 32769 ∷ pos 98303 ∷ pos 98304 ∷ pos 98305 ∷ negsuc 32768 ∷ negsuc 32767 ∷ negsuc 32766 ∷ negsuc 98303 ∷ []
+ties = pos 32767 ∷ pos 32768 ∷ pos 32769 ∷ pos 98303 ∷ pos 98304 ∷ pos 98305 ∷ minus 32769 ∷ minus 32768 ∷ minus 32767 ∷ minus 98304 ∷ []
 
 -- row D among them: RND 0, to an even quotient; RND 1, up; truncated, the floor
 pub row-d :
@@ -497,18 +498,18 @@ row-e = (refl, refl)
 
 -- SATDW at both edges, and without it: 2^31 - 1, 2^31, -2^31, -2^31 - 1
 edges :
-    (map (λ (v : ℤ). truncated 0x20 8 v) (pos (2 ^ 31 - 1) ∷ pos (2 ^ 31) ∷ negsuc (2 ^ 31 - 1) ∷ negsuc (2 ^ 31) ∷ []) ≡ 0x7fff ∷ 0x7fff ∷ 0x8000 ∷ 0x8000 ∷ [])
-    × (map (λ (v : ℤ). truncated 0 8 v) (pos (2 ^ 31 - 1) ∷ pos (2 ^ 31) ∷ negsuc (2 ^ 31 - 1) ∷ negsuc (2 ^ 31) ∷ []) ≡ 0x7fff ∷ 0x8000 ∷ 0x8000 ∷ 0x7fff ∷ [])
+    (map (λ (v : ℤ). truncated 0x20 8 v) (pos (2 ^ 31 - 1) ∷ pos (2 ^ 31) ∷ minus (2 ^ 31) ∷ minus (2 ^ 31 + 1) ∷ []) ≡ 0x7fff ∷ 0x7fff ∷ 0x8000 ∷ 0x8000 ∷ [])
+    × (map (λ (v : ℤ). truncated 0 8 v) (pos (2 ^ 31 - 1) ∷ pos (2 ^ 31) ∷ minus (2 ^ 31) ∷ minus (2 ^ 31 + 1) ∷ []) ≡ 0x7fff ∷ 0x8000 ∷ 0x8000 ∷ 0x7fff ∷ [])
 unfolding after
 edges = (refl, refl)
 
 -- the shift comes first: 2^38 and -2^38 by -8 are not reduced to 40 bits; 2^39 - 1 by 7 is 65,535; -1 by 7 is -1
 shifted-stores :
     (map (λ (m : ℕ). truncated m 0 (pos (2 ^ 38))) (0x20 ∷ 0 ∷ []) ≡ 0x7fff ∷ 0 ∷ [])
-    × (map (λ (m : ℕ). rounded m 0 (negsuc (2 ^ 38 - 1))) (0x20 ∷ 0 ∷ []) ≡ 0x8000 ∷ 0 ∷ [])
+    × (map (λ (m : ℕ). rounded m 0 (minus (2 ^ 38))) (0x20 ∷ 0 ∷ []) ≡ 0x8000 ∷ 0 ∷ [])
     × (map (λ (m : ℕ). truncated m 15 (pos (2 ^ 39 - 1))) (0x20 ∷ 0 ∷ []) ≡ 0x7fff ∷ 0xffff ∷ [])
-    × (truncated 0x20 15 (negsuc 0) ≡ 0xffff)
-    × (rounded 0x20 15 (negsuc 0) ≡ 0)
+    × (truncated 0x20 15 (minus 1) ≡ 0xffff)
+    × (rounded 0x20 15 (minus 1) ≡ 0)
 unfolding after
 shifted-stores = (refl, refl, refl, refl, refl)
 
@@ -643,7 +644,7 @@ uncorrected = (refl, refl)
 passing :
     (movedOf (circle 8 0xfff0 0xffff) 8 0xfffe (pos 4) ≡ 0xfff2)
     × (movedOf (circle 8 0xfff0 0xffff) 9 0xfffe (pos 4) ≡ 2)
-    × (movedOf none 8 0 (negsuc 5) ≡ 0xfffa)
+    × (movedOf none 8 0 (minus 6) ≡ 0xfffa)
 unfolding after
 passing = (refl, refl, refl)
 
@@ -840,7 +841,7 @@ add-traps t m a b = by-traps (AddAccumulators t) (start but by m but inA a but i
 left-traps :
     (add-traps A 0x20 (pos (2 ^ 39 - 1)) (pos 1) ≡ 0 ∷ 5 ∷ 0 ∷ 6 ∷ 5 ∷ 6 ∷ 5 ∷ [])
     × (add-traps B 0x20 (pos (2 ^ 39 - 1)) (pos 1) ≡ 0 ∷ 5 ∷ 7 ∷ 0 ∷ 5 ∷ 7 ∷ 5 ∷ [])
-    × (add-traps A 0x20 (negsuc (2 ^ 39 - 1)) (negsuc 0) ≡ 0 ∷ 5 ∷ 0 ∷ 6 ∷ 5 ∷ 6 ∷ 5 ∷ [])
+    × (add-traps A 0x20 (minus (2 ^ 39)) (minus 1) ≡ 0 ∷ 5 ∷ 0 ∷ 6 ∷ 5 ∷ 6 ∷ 5 ∷ [])
 unfolding after
 left-traps = (refl, refl, refl)
 
@@ -848,9 +849,9 @@ left-traps = (refl, refl, refl)
 over-traps :
     (add-traps A 0x20 (pos (2 ^ 31 - 1)) (pos 1) ≡ 0 ∷ 0 ∷ 0 ∷ 6 ∷ 6 ∷ 6 ∷ 6 ∷ [])
     × (add-traps B 0x20 (pos (2 ^ 31 - 1)) (pos 1) ≡ 0 ∷ 0 ∷ 7 ∷ 0 ∷ 0 ∷ 7 ∷ 7 ∷ [])
-    × (add-traps A 0x20 (negsuc (2 ^ 31 - 1)) (negsuc 0) ≡ 0 ∷ 0 ∷ 0 ∷ 6 ∷ 6 ∷ 6 ∷ 6 ∷ [])
+    × (add-traps A 0x20 (minus (2 ^ 31)) (minus 1) ≡ 0 ∷ 0 ∷ 0 ∷ 6 ∷ 6 ∷ 6 ∷ 6 ∷ [])
     × (add-traps A 0x20 (pos (2 ^ 31 - 2)) (pos 1) ≡ replicate 7 0)
-    × (add-traps B 0x20 (negsuc (2 ^ 31 - 1)) (pos 0) ≡ replicate 7 0)
+    × (add-traps B 0x20 (minus (2 ^ 31)) (pos 0) ≡ replicate 7 0)
 unfolding after
 over-traps = (refl, refl, refl, refl, refl)
 
@@ -908,7 +909,7 @@ complete-5 :
     after (Literal 0 1 ∷ Do 9 3 ∷ Literal 0 1 ∷ mac Mac A 4 5 (Pointer 8 5) 4 (Pointer 10 2) 5 ToMemory ∷ []) (settingsOf 0x700 none none 15 0)
     (start but at 3 but one 1 2 but inA (pos (2 ^ 39 - 1))) memory
     ≡ ends 5
-    (start but at 2 but one 1 1 but inA (negsuc (2 ^ 39 - 420)) but flags true false true false
+    (start but at 2 but one 1 1 but inA (minus (2 ^ 39 - 419)) but flags true false true false
     but reg 4 101 but reg 5 108 but reg 8 0x1006 but reg 10 0x100e but reg 13 0x1016)
     (set memory 10 0)
 unfolding after
@@ -923,7 +924,7 @@ complete-6 = refl
 
 -- trap 7 at the end of a loop and of the program
 complete-7 :
-    after (Do 9 2 ∷ Literal 0 1 ∷ Negate B ∷ []) (settingsOf 0x200 none none 15 0) (start but at 2 but one 0 1 but inB (negsuc (2 ^ 31))) memory
+    after (Do 9 2 ∷ Literal 0 1 ∷ Negate B ∷ []) (settingsOf 0x200 none none 15 0) (start but at 2 but one 0 1 but inB (minus (2 ^ 31 + 1))) memory
     ≡ ends 7 (start but at 3 but inB (pos (2 ^ 31 + 1)) but flags false true false false) memory
 unfolding after
 complete-7 = refl

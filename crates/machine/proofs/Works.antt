@@ -24,7 +24,7 @@ use Rattle.state.specs.declared.state.State.{State}
 use Rattle.effects.specs.Effect.{Work, blocked}
 use Rattle.effects.specs.Operations.{loopWork, workOf}
 use Rattle.effects.specs.declared.effect.Exact.{Exact}
-use Rattle.effects.specs.declared.effect.Exact.the-variants.{Keep, Result}
+use Rattle.effects.specs.declared.effect.Exact.the-variants.{Keep, Replace}
 use Rattle.machine.specs.Write.{trapAfter, settleOf}
 use Rattle.machine.specs.Control.{controlOf, begins}
 
@@ -65,20 +65,20 @@ module _ (s : Settings) (m : Mode) (c : Core) (memory : List ℕ) where
 pub settled-pc : (t : ℕ) (m : Mode) (e : Exact) (s : State) → settleOf t m e s .state .core .pc ≡ s .core .pc
 unfolding settleOf
 settled-pc t m Keep s = refl
-settled-pc t m (Result A r) s = refl
-settled-pc t m (Result B r) s = refl
+settled-pc t m (Replace A r) s = refl
+settled-pc t m (Replace B r) s = refl
 
 pub settled-loops : (t : ℕ) (m : Mode) (e : Exact) (s : State) → settleOf t m e s .state .core .loops ≡ s .core .loops
 unfolding settleOf
 settled-loops t m Keep s = refl
-settled-loops t m (Result A r) s = refl
-settled-loops t m (Result B r) s = refl
+settled-loops t m (Replace A r) s = refl
+settled-loops t m (Replace B r) s = refl
 
 pub settled-mode : (t : ℕ) (m : Mode) (e : Exact) (s : State) → settleOf t m e s .state .core .mode ≡ s .core .mode
 unfolding settleOf
 settled-mode t m Keep s = refl
-settled-mode t m (Result A r) s = refl
-settled-mode t m (Result B r) s = refl
+settled-mode t m (Replace A r) s = refl
+settled-mode t m (Replace B r) s = refl
 
 -- ---- with trap word 0 no write traps
 

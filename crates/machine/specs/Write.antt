@@ -16,7 +16,7 @@ use Rattle.state.specs.declared.state.State.{State}
 use Rattle.effects.specs.declared.access.Place.{Place}
 use Rattle.effects.specs.declared.access.Place.the-variants.{Nowhere, Register, Memory}
 use Rattle.effects.specs.declared.effect.Exact.{Exact}
-use Rattle.effects.specs.declared.effect.Exact.the-variants.{Keep, Result}
+use Rattle.effects.specs.declared.effect.Exact.the-variants.{Keep, Replace}
 use Rattle.effects.specs.declared.effect.Value.{Value}
 use Rattle.effects.specs.declared.effect.Value.the-variants.{Word, Scaled}
 
@@ -42,7 +42,7 @@ pub record Settled : Type 0 where
 -- the exact result is limited and written, by the trap word
 unfoldable pub settleOf : ℕ → Mode → Exact → State → Settled
 settleOf traps m Keep s = record { state = s; trap = 0 }
-settleOf traps m (Result t r) s = record { state = withWritten s t (writeOf (accumulatorAt s t) m t r); trap = trapAfter traps m t r }
+settleOf traps m (Replace t r) s = record { state = withWritten s t (writeOf (accumulatorAt s t) m t r); trap = trapAfter traps m t r }
 
 -- ---- the one store
 

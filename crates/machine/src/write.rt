@@ -58,7 +58,7 @@ pub fn settle(traps: u16, mode: Mode, exact: Exact, s: Scalars) -> Written
             scalars: s,
             trap: 0,
         },
-        Exact::Result { target, r } => {
+        Exact::Replace { target, r } => {
             let after = write(s.accumulator(target), mode, target, r);
             let scalars = s.with_accumulator(target, after);
             let trap = trap_after(traps, mode, target, r, after.overflow);

@@ -107,8 +107,8 @@ moveOf b =
 -- 24 mode word b2-3, 25 clears SA and SB
 
 -- by the kind
-abbrev pub controlOf : List ℕ → Operation
-controlOf b =
+abbrev pub controlOperationOf : List ℕ → Operation
+controlOperationOf b =
     cond (eqb (byte b 0) 19) (Repeat (word b 2))
     (cond (eqb (byte b 0) 20) (RepeatRegister (byte b 1))
     (cond (eqb (byte b 0) 21) (Do (word b 2) (word b 4))
@@ -126,7 +126,7 @@ operationOf b =
     (cond (leb (byte b 0) 11) (arithmeticOf b)
     (cond (leb (byte b 0) 15) (transferOf b)
     (cond (leb (byte b 0) 18) (moveOf b)
-    (controlOf b))))
+    (controlOperationOf b))))
 
 -- an operation, if a test holds
 abbrev pub listedIf : Bool → Operation → Decoded

@@ -13,7 +13,7 @@ use accumulator::mode::Target;
 ghost use mathlib.Core.Path.{_≡_};
 ghost use Prim.Native.Nat.{_+_, _*_};
 ghost use Rattle.operations.specs.Decode.{targetOf, actionOf, prefetchOf, writeBackOf, macOf, arithmeticOf, postOf, operandOf, transferOf, moveOf};
-ghost use Rattle.operations.specs.Decode.{controlOf, operationOf, listedIf, decodeOf};
+ghost use Rattle.operations.specs.Decode.{controlOperationOf, operationOf, listedIf, decodeOf};
 ghost use Rattle.operations.specs.Listed.{isListed};
 
 // What decoding answers: the operation, or that the bytes are none.
@@ -196,7 +196,7 @@ fn move_of(b: [u8; 8]) -> Operation
 
 // Kinds 19 to 25.
 fn control_of(b: [u8; 8]) -> Operation
-    ensures { λ r. ⌜ r ≡ controlOf b ⌝ }
+    ensures { λ r. ⌜ r ≡ controlOperationOf b ⌝ }
 {
     let register = b[1];
     let first = word_of(b[2], b[3]);

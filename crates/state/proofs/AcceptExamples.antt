@@ -1,11 +1,11 @@
 -- Refusals 6 and 7, reset and SR, each value worked out by hand from document 01. Assumes nothing.
-use Prim.Native.Nat.{ℕ, _-_, _^_}
+use Prim.Native.Nat.{ℕ, _+_, _-_, _^_}
 use mathlib.Core.Path.{_≡_, refl}
 use mathlib.Core.Bool.{Bool, true, false}
 use mathlib.Core.List.{List, [], _∷_, map}
-use lib.IntN.{ℤ, pos, negsuc}
+use lib.IntN.{ℤ, pos}
 use lib.ListN.{set, replicate}
-use Rattle.integers.specs.Range.{lowest, highest, outside}
+use Rattle.integers.specs.Range.{minus, lowest, highest, outside}
 use Rattle.accumulator.specs.Mode.{isGoodMode}
 use Rattle.accumulator.specs.Limit.{isAccumulator}
 use Rattle.accumulator.specs.Status.{statusOf}
@@ -182,8 +182,8 @@ holding a b m = seven three (made a b 0 no-loop 0 m false false false false)
 
 -- A, B 40 bits: each side of both edges
 accumulators :
-    (map (λ (v : ℤ). holding v (pos 0) 0x20) (pos (2 ^ 39 - 1) ∷ pos (2 ^ 39) ∷ negsuc (2 ^ 39 - 1) ∷ negsuc (2 ^ 39) ∷ []) ≡ 0 ∷ 7 ∷ 0 ∷ 7 ∷ [])
-    × (map (λ (v : ℤ). holding (pos 0) v 0x20) (pos (2 ^ 39 - 1) ∷ pos (2 ^ 39) ∷ negsuc (2 ^ 39 - 1) ∷ negsuc (2 ^ 39) ∷ []) ≡ 0 ∷ 7 ∷ 0 ∷ 7 ∷ [])
+    (map (λ (v : ℤ). holding v (pos 0) 0x20) (pos (2 ^ 39 - 1) ∷ pos (2 ^ 39) ∷ minus (2 ^ 39) ∷ minus (2 ^ 39 + 1) ∷ []) ≡ 0 ∷ 7 ∷ 0 ∷ 7 ∷ [])
+    × (map (λ (v : ℤ). holding (pos 0) v 0x20) (pos (2 ^ 39 - 1) ∷ pos (2 ^ 39) ∷ minus (2 ^ 39) ∷ minus (2 ^ 39 + 1) ∷ []) ≡ 0 ∷ 7 ∷ 0 ∷ 7 ∷ [])
 unfolding seven
 accumulators = (refl, refl)
 
@@ -198,7 +198,7 @@ mode-words = (refl, refl)
 -- flags that do not fit the accumulators, and A beyond 2^31 with SATA, are accepted
 any-flags :
     (seven three (made (pos 0) (pos 0) 0 no-loop 0 0x20 true true true true) ≡ 0)
-    × (seven three (made (pos (2 ^ 38)) (negsuc (2 ^ 38)) 0 no-loop 0 0xc0 false false false false) ≡ 0)
+    × (seven three (made (pos (2 ^ 38)) (minus (2 ^ 38 + 1)) 0 no-loop 0 0xc0 false false false false) ≡ 0)
 unfolding seven
 any-flags = (refl, refl)
 

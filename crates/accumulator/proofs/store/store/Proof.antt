@@ -5,12 +5,12 @@ use mir.Syntax.{w64}
 use mir.Val.{toZ}
 use mir.Facts.{toZ-ofZ}
 use Rattle.integers.proofs.Fitting.{gave}
-use Rattle.accumulator.specs.Store.{resultOf, storeOf}
+use Rattle.accumulator.specs.Store.{beforeLimiting, storeOf}
 use Rattle.accumulator.proofs.store.store.Statement.{statement}
 use Rattle.accumulator.proofs.store.store.Tie as tie
 
 -- where the arms meet
-quotient : (c : tie.Joined1) → let a = c .before .args in toZ w64 (c .if1 .q) ≡ resultOf (a .mode) (a .round) (a .v)
+quotient : (c : tie.Joined1) → let a = c .before .args in toZ w64 (c .if1 .q) ≡ beforeLimiting (a .mode) (a .round) (a .v)
 quotient c =
     ⊎-elim
     (λ w. rw (w .2, gave (w .1 .ensures) (w .1 .ok), toZ-ofZ (c .before .fits .v), w .0 .taken))
