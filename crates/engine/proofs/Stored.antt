@@ -126,7 +126,7 @@ module _ (p : List Operation) (settings : Settings) (ok : (i : ℕ) → i < leng
     abbrev engineAt : ℕ → Engine
     engineAt k = engineRun p settings k (cleared start) memory .machine
 
-    -- a store is right: the engine's word is the withStore one, and half a unit off at most where it is rounded and needed no limiting
+    -- a store is right: the engine's word is the listed one, and half a unit off at most where it is rounded and needed no limiting
     pub record Right (e : Entry) : Type 0 where
       pub word : signedOf 16 (storedAt p settings (cleared start) memory e) ≡ e .word
       pub half : e .rounded ≡ true → e .limiting ≡ false → HalfUnit (storedAt p settings (cleared start) memory e) (e .value)
@@ -135,13 +135,13 @@ module _ (p : List Operation) (settings : Settings) (ok : (i : ℕ) → i < leng
     abbrev pub Rights : List Entry → Type 0
     Rights l = (e : Entry) → List·Memᴰ e l → Right e
 
-    -- the ledger is y after k steps: the engine's run from the start goes through it, and the stores withStore so far are right
+    -- the ledger is y after k steps: the engine's run from the start goes through it, and the stores listed so far are right
     record Reached (k : ℕ) (y : Ledger) : Type 0 where
       long : length (y .core .w) ≡ 14
       through : (n : ℕ) → engineRun p settings (k + n) (cleared start) memory ≡ engineFrom p settings n k (clear y)
       rights : Rights (y .stores)
 
-    -- the store of step k, withStore
+    -- the store of step k, put on the list
     rights-listed : (m : Mode) (k : ℕ) (place : Place) (x : Value) (l : List Entry)
         → (isStored place ≡ true → wordIn (engineAt k) place ≡ valueWord m x) → Rights l → Rights (withStore m k place x l)
     unfolding withStore valueWord
