@@ -1,7 +1,9 @@
 -- Rows A to F and L of document 01's table, and edge cases, by computation of the definitions that the contracts cite. Assumes nothing.
 use mathlib.Core.Path.{_≡_, refl}
 use mathlib.Core.Bool.{Bool, true, false}
-use Prim.Native.Nat.{ℕ, _+_, _-_, _^_}
+use mathlib.Core.List.{List, [], _∷_, map}
+use Prim.Native.Nat.{ℕ, _+_, _-_, _^_, _≤_}
+use native.Mathlib.Omega.{arith}
 use lib.IntN.{ℤ, pos}
 use Rattle.integers.specs.Floor.{remainderOf}
 use Rattle.integers.specs.Bits.{lowBits, signedOf}
@@ -16,7 +18,7 @@ use Rattle.accumulator.specs.Status.{statusOf}
 use Rattle.accumulator.specs.Product.{readOf, productOf, squareOf}
 use Rattle.accumulator.specs.Limit.{limitBits, hasLeft, keptOf, overflows, writeOf}
 use Rattle.accumulator.specs.Shift.{shiftOf, shiftAllowed}
-use Rattle.accumulator.specs.Store.{isOdd, roundsUp, roundedOf, needsLimiting, storedWord, storeOf}
+use Rattle.accumulator.specs.Store.{isOdd, roundsUp, roundedOf, needsLimiting, storedWord, storeOf, HalfUnit}
 
 -- a word as a factor, read by a mode word's US
 abbrev factor : ℕ → ℕ → Factor
@@ -132,10 +134,13 @@ wraps : written 0 B (pos (2 ^ 40 - 2)) ≡ holds (minus 2) false true
 unfolding writeOf keptOf hasLeft overflows limitBits saturates modeOf outside nearer lowest highest lowBits remainderOf signedOf
 wraps = refl
 
--- S stays after a result within the limits, and O is redone
-stays : writeOf (holds (pos 0) true true) (modeOf 0) A (pos 1) ≡ holds (pos 1) false true
+-- S stays after a result within the limits, and O is redone: both set, S alone, O alone
+stays :
+    (writeOf (holds (pos 0) true true) (modeOf 0) A (pos 1) ≡ holds (pos 1) false true)
+    × (writeOf (holds (pos 0) false true) (modeOf 0) A (pos 1) ≡ holds (pos 1) false true)
+    × (writeOf (holds (pos 0) true false) (modeOf 0) A (pos 1) ≡ holds (pos 1) false false)
 unfolding writeOf keptOf hasLeft overflows limitBits saturates modeOf outside nearer lowest highest
-stays = refl
+stays = (refl, refl, refl)
 
 -- B goes by SATB: its limits with SATA alone (0080 hex) and with SATB alone (0040 hex)
 by-target : (written 0x80 B (pos (2 ^ 31)) ≡ holds (pos (2 ^ 31)) true false) × (written 0x40 B (pos (2 ^ 31)) ≡ holds (pos (2 ^ 31 - 1)) false true)
@@ -154,6 +159,46 @@ lower = (refl, refl, refl)
 ties-below : (rounds 0x20 (minus 98304) ≡ gives 0xfffe false) × (rounds 0x22 (minus 98304) ≡ gives 0xffff false)
 unfolding modeOf storeOf storedWord roundedOf roundsUp isOdd needsLimiting lowBits remainderOf limitedTo outside nearer lowest highest
 ties-below = (refl, refl)
+
+-- limiting is needed by v alone, with SATDW off (no bit; every other bit) and on (alone; with every other bit): the four words and limiting
+abbrev by-modes : Bool → ℤ → List Stored
+by-modes rounded v = map (λ (m : ℕ). storeOf (modeOf m) rounded v) (0 ∷ 0x10d3 ∷ 0x20 ∷ 0x10f3 ∷ [])
+
+-- with SATDW off this word, with it on that one
+abbrev two-words : ℕ → ℕ → Bool → List Stored
+two-words off on l = gives off l ∷ gives off l ∷ gives on l ∷ gives on l ∷ []
+
+-- truncated: 100,000 is 1 and 34,464 over, -70,000 is -2 and 61,072 over; 2^31 - 1 and -2^31 need none, 2^31 and -2^31 - 1 do
+truncated-limiting :
+    (by-modes false (pos 100000) ≡ two-words 1 1 false)
+    × (by-modes false (minus 70000) ≡ two-words 0xfffe 0xfffe false)
+    × (by-modes false (pos (2 ^ 31 - 1)) ≡ two-words 0x7fff 0x7fff false)
+    × (by-modes false (minus (2 ^ 31)) ≡ two-words 0x8000 0x8000 false)
+    × (by-modes false (pos (2 ^ 31)) ≡ two-words 0x8000 0x7fff true)
+    × (by-modes false (minus (2 ^ 31 + 1)) ≡ two-words 0x7fff 0x8000 true)
+unfolding modeOf storeOf storedWord needsLimiting lowBits remainderOf limitedTo outside nearer lowest highest
+truncated-limiting = (refl, refl, refl, refl, refl, refl)
+
+-- rounded: 100,000 to 2, -70,000 to -1; 2^31 - 32,769 and -2^31 - 32,768 need none, 2^31 - 32,768 and -2^31 - 32,769 do
+rounded-limiting :
+    (by-modes true (pos 100000) ≡ two-words 2 2 false)
+    × (by-modes true (minus 70000) ≡ two-words 0xffff 0xffff false)
+    × (by-modes true (pos (2 ^ 31 - 32769)) ≡ two-words 0x7fff 0x7fff false)
+    × (by-modes true (minus (2 ^ 31 + 32768)) ≡ two-words 0x8000 0x8000 false)
+    × (by-modes true (pos (2 ^ 31 - 32768)) ≡ two-words 0x8000 0x7fff true)
+    × (by-modes true (minus (2 ^ 31 + 32769)) ≡ two-words 0x7fff 0x8000 true)
+unfolding modeOf storeOf storedWord roundedOf roundsUp isOdd needsLimiting lowBits remainderOf limitedTo outside nearer lowest highest
+rounded-limiting = (refl, refl, refl, refl, refl, refl)
+
+-- half a unit: 98,304 is 32,768 from 1 unit and -98,304 from -1; 98,305 and -98,305 are 32,769 from them
+half-units : HalfUnit 1 (pos 98304) × HalfUnit 0xffff (minus 98304) × (HalfUnit 1 (pos 98305) → ⊥) × (HalfUnit 0xffff (minus 98305) → ⊥)
+unfolding signedOf
+half-units = (
+  record { near = omega arith },
+  record { near = omega arith },
+  λ h. let far : 32769 ≤ 32768 = h .near in omega (arith, far),
+  λ h. let far : 32769 ≤ 32768 = h .near in omega (arith, far),
+)
 
 -- -16 is allowed, -17 is not; to the left by 16
 shifts : (shiftAllowed (minus 16) ≡ true) × (shiftAllowed (minus 17) ≡ false) × (shiftOf (minus 1) (minus 16) ≡ minus 65536)

@@ -11,11 +11,11 @@ use Rattle.address.specs.Word.{addressOf, wordOf}
 use Rattle.address.specs.Region.{isInside, accessTrap}
 use Rattle.address.proofs.Words.{word-address, address-word}
 
-pub word-free : (region : Region) (i : ℕ) → region .first ≤ i → i < region .end → accessTrap region (addressOf i) ≡ 0
+pub word-free : (region : Region) (i : ℕ) → region .first .0 ≤ i → i < region .end .0 → accessTrap region (addressOf i) ≡ 0
 unfolding accessTrap isInside
 word-free region i h l =
     let even : eqb (addressOf i % 2) 1 ≡ false = ne-eqb (addressOf i % 2) 1 (λ (e : addressOf i % 2 ≡ 1). omega arith) in
-    rw (even, le-leb (addressOf 0) (addressOf i) (omega arith), word-address i, le-leb (region .first) i h, lt-ltb i (region .end) l)
+    rw (even, le-leb (addressOf 0) (addressOf i) (omega arith), word-address i, le-leb (region .first .0) i h, lt-ltb i (region .end .0) l)
 
 -- a choice of numbers that is 0 tells its test
 zero-second : (t : Bool) (n : ℕ) → cond t 1 n ≡ 0 → (t ≡ false) × (n ≡ 0)
@@ -28,12 +28,12 @@ zero-first false e = absurd (omega arith)
 
 pub free-word :
     (region : Region) (a : ℕ) → accessTrap region a ≡ 0
-    → (a ≡ addressOf (wordOf a)) × (region .first ≤ wordOf a) × (wordOf a < region .end)
+    → (a ≡ addressOf (wordOf a)) × (region .first .0 ≤ wordOf a) × (wordOf a < region .end .0)
 unfolding accessTrap isInside
 free-word region a e =
     let t = zero-second (eqb (a % 2) 1) (cond (isInside region a) 0 2) e in
     let even : a % 2 ≡ 0 = omega (arith, eqb-false (a % 2) 1 (t .0)) in
     let i = wordOf a in
-    let inside = both (leb (addressOf 0) a) (leb (region .first) i && ltb i (region .end)) (zero-first (isInside region a) (t .1)) in
-    let part = both (leb (region .first) i) (ltb i (region .end)) (inside .1) in
-    (sym (address-word a (leb-true (addressOf 0) a (inside .0)) even), leb-true (region .first) i (part .0), ltb-true i (region .end) (part .1))
+    let inside = both (leb (addressOf 0) a) (leb (region .first .0) i && ltb i (region .end .0)) (zero-first (isInside region a) (t .1)) in
+    let part = both (leb (region .first .0) i) (ltb i (region .end .0)) (inside .1) in
+    (sym (address-word a (leb-true (addressOf 0) a (inside .0)) even), leb-true (region .first .0) i (part .0), ltb-true i (region .end .0) (part .1))

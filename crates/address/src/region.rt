@@ -1,13 +1,14 @@
 // Regions of memory, and the trap of an access outside its region or at an odd address.
 use crate::word::ByteAddress;
 use crate::word::MEMORY_START;
+use crate::word::WordIndex;
 ghost use mathlib.Core.Path.{_≡_};
 ghost use Rattle.address.specs.Region.{xPart, yPart, allWords, isInside, accessTrap};
 
-// The words first .. end - 1.
+// The words first .. end - 1. `end` is the number of the word after the last, so a count of words may be one.
 pub struct Region {
-    pub first: usize,
-    pub end: usize,
+    pub first: WordIndex,
+    pub end: WordIndex,
 }
 
 impl Region {
@@ -15,7 +16,10 @@ impl Region {
     pub fn x_part(x: usize) -> Region
         ensures { λ r. ⌜ r ≡ xPart x ⌝ }
     {
-        Region { first: 0, end: x }
+        Region {
+            first: WordIndex(0),
+            end: WordIndex(x),
+        }
     }
 
     // The words of Y reads: the rest.
@@ -23,8 +27,8 @@ impl Region {
         ensures { λ r. ⌜ r ≡ yPart x words ⌝ }
     {
         Region {
-            first: x,
-            end: words,
+            first: WordIndex(x),
+            end: WordIndex(words),
         }
     }
 
@@ -33,8 +37,8 @@ impl Region {
         ensures { λ r. ⌜ r ≡ allWords words ⌝ }
     {
         Region {
-            first: 0,
-            end: words,
+            first: WordIndex(0),
+            end: WordIndex(words),
         }
     }
 }
@@ -43,12 +47,13 @@ impl Region {
 pub fn inside(region: Region, a: ByteAddress) -> bool
     ensures { λ r. ⌜ r ≡ isInside region (a .0) ⌝ }
 {
-    let first = region.first;
-    let end = region.end;
+    let first = region.first.0;
+    let end = region.end.0;
+    let start = MEMORY_START.0;
     let at = a.0;
     let i = a.word();
     let w = i.0;
-    (MEMORY_START <= at) & ((first <= w) & (w < end))
+    (start <= at) & ((first <= w) & (w < end))
 }
 
 // The trap of an access at a: 1 odd address, 2 outside its region, 0 none.

@@ -56,11 +56,12 @@ fn mask(b: u16) -> u16
 }
 
 // The index j of an address among N words.
-fn index(b: u16, a: u16) -> u16
+fn index(b: u16, a: ByteAddress) -> u16
     requires { ⌜ b ≤ 10 ⌝ }
-    ensures { λ r. ⌜ r ≡ indexOf (2 ^ b) a ⌝ }
+    ensures { λ r. ⌜ r ≡ indexOf (2 ^ b) (a .0) ⌝ }
 {
-    (a & mask(b)) >> 1
+    let at = a.0;
+    (at & mask(b)) >> 1
 }
 
 // The b bits of j in the opposite order: the entry of ten bits, shifted.
@@ -92,7 +93,7 @@ pub fn next(table: &[u16; 1024], n: u16, a: ByteAddress) -> ByteAddress
 {
     let at = a.0;
     let b = width(n);
-    let j = index(b, at);
+    let j = index(b, a);
     let k = next_index(table, b, j);
     let to = at - 2 * j + 2 * k;
     ByteAddress(to)

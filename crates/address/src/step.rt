@@ -43,17 +43,20 @@ pub fn stepped(a: ByteAddress, step: i16) -> ByteAddress
 }
 
 // An address stepped, not reduced to 16 bits.
-fn unreduced(at: u16, step: i16) -> i64
-    ensures { λ r. ⌜ r ≡ pos at +ℤ step ⌝ }
+fn unreduced(a: ByteAddress, step: i16) -> i64
+    ensures { λ r. ⌜ r ≡ pos (a .0) +ℤ step ⌝ }
 {
+    let at = a.0;
     let to = at as i64 + wide(step);
     to
 }
 
 // The bytes of the buffer S..E.
-fn size(s: u16, e: u16) -> i64
-    ensures { λ r. ⌜ r ≡ sizeOf s e ⌝ }
+fn size(start: ByteAddress, last: ByteAddress) -> i64
+    ensures { λ r. ⌜ r ≡ sizeOf (start .0) (last .0) ⌝ }
 {
+    let s = start.0;
+    let e = last.0;
     let apart = e as i64 - s as i64;
     apart + 1
 }
@@ -68,8 +71,8 @@ pub fn circular(buffer: Buffer, old: ByteAddress, step: i16) -> ByteAddress
     let e = last.0;
     let at = old.0;
     if (s <= at) & (at <= e) {
-        let bytes = size(s, e);
-        let to = unreduced(at, step);
+        let bytes = size(start, last);
+        let to = unreduced(old, step);
         if (e as i64) < to {
             ByteAddress(low_word(to - bytes))
         } else if to < s as i64 {

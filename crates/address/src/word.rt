@@ -9,7 +9,7 @@ pub struct ByteAddress(pub u16);
 pub struct WordIndex(pub usize);
 
 // The address of word 0.
-pub const MEMORY_START: u16 = 0x1000;
+pub const MEMORY_START: ByteAddress = ByteAddress(0x1000);
 
 impl ByteAddress {
     // The word that an address lies in; 0 below all words.
@@ -17,10 +17,11 @@ impl ByteAddress {
         ensures { λ r. ⌜ r .0 ≡ wordOf (self .0) ⌝ }
     {
         let a = self.0;
-        if a < MEMORY_START {
+        let start = MEMORY_START.0;
+        if a < start {
             WordIndex(0)
         } else {
-            WordIndex(((a - MEMORY_START) / 2) as usize)
+            WordIndex(((a - start) / 2) as usize)
         }
     }
 }

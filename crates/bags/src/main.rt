@@ -1,14 +1,15 @@
 // Services from standard input, each answered by a line on standard output (docs/SERVICE.md has both forms).
 use address::word::WordIndex;
-use engine::ending::Ending;
 use libc::STDIN_FILENO;
 use service::call::ServiceOutcome;
 use service::call::Window;
 use service::call::serve;
 use stream::header;
 use stream::line;
+use stream::line::LINE;
 use stream::memory::fill;
-use stream::number::print_text;
+use stream::print::print;
+use stream::print::print_start;
 ghost use mathlib.Core.Path.{_≡_};
 ghost use Prim.Native.Nat.{_*_, _≤_};
 ghost use lib.ListN.{length};
@@ -34,13 +35,13 @@ struct Sizes {
 
 // The last line of a stream that breaks off.
 fn short() -> bool {
-    print_text(b"short\n");
+    print(b"short\n");
     false
 }
 
 // The last line of a stream that asks for too much.
 fn too_large() -> bool {
-    print_text(b"toolarge\n");
+    print(b"toolarge\n");
     false
 }
 
@@ -72,7 +73,7 @@ fn read_words(words: &mut [u16]) -> bool
 
 // A number of 4 bytes.
 fn long(b: [u8; 4]) -> u32 {
-    header::long(header::word(b[0], b[1]), header::word(b[2], b[3]))
+    header::four_bytes(header::two_bytes(b[0], b[1]), header::two_bytes(b[2], b[3]))
 }
 
 // Numbers of 4 bytes; false where the input breaks off.
@@ -133,8 +134,9 @@ fn count_up(endings: &mut [u8], steps: &mut [u32])
 
 // The ending code and the steps of a bag.
 fn print_bag(ending: u8, steps: u32) {
-    line::print_word_field(ending as u16);
-    line::print_field(steps as u64);
+    let mut text = [0u8; LINE];
+    let n = line::bag_text(&mut text, ending, steps);
+    print_start(text, n);
 }
 
 // The first bags, no more of them than endings and steps.
@@ -149,18 +151,13 @@ fn print_bags(bags: usize, endings: &[u8], steps: &[u32]) {
 // The line of a service.
 fn print_service(r: ServiceOutcome, memory: &[u16], bags: usize, endings: &[u8], steps: &[u32]) {
     let after = r.state;
-    if r.refusal == 0 {
-        print_text(b"served");
-    } else {
-        line::print_ending(Ending::Refused(r.refusal));
-    }
-    line::print_state(after, memory);
-    line::print_bytes_check(endings);
-    line::print_longs_check(steps);
+    let mut text = [0u8; LINE];
+    let n = line::service_text(&mut text, r.refusal, after, memory, endings, steps);
+    print_start(text, n);
     if r.refusal == 0 {
         print_bags(bags, endings, steps);
     }
-    print_text(b"\n");
+    print(b"\n");
 }
 
 // The service, and its line.

@@ -4,6 +4,7 @@ use combine::board::Board;
 use combine::call::Combined;
 use combine::call::combine;
 use engine::call::run;
+use engine::outcome::Outcome;
 use join::call::join;
 use libc::STDIN_FILENO;
 use program::answer::Answer;
@@ -12,8 +13,11 @@ use program::write::write;
 use stream::boards::boards;
 use stream::header;
 use stream::line;
+use stream::line::LINE;
+use stream::line::Verb;
 use stream::memory::fill;
-use stream::number::print_text;
+use stream::print::print;
+use stream::print::print_start;
 ghost use mathlib.Core.Path.{_≡_};
 ghost use Prim.Native.Nat.{_*_, _≤_};
 ghost use lib.ListN.{length};
@@ -29,7 +33,19 @@ const JOIN: u8 = 17;
 // Boards combined.
 const COMBINE: u8 = 22;
 
-// A run, and its line, which has more fields in the long form.
+// The line of a run, which has more fields in the long form.
+fn print_run(what: u8, outcome: Outcome, memory: &[u16]) {
+    let mut text = [0u8; LINE];
+    if what < LONG {
+        let n = line::run_line(&mut text, outcome, memory);
+        print_start(text, n);
+    } else {
+        let n = line::long_run_line(&mut text, outcome, memory);
+        print_start(text, n);
+    }
+}
+
+// A run, and its line.
 fn answer_run(head: [u8; 320], file: &[u8], bytes: &[u8], memory: &mut [u16])
     requires { ⌜ 2 * length (now memory) ≤ length (now bytes) ⌝ }
 {
@@ -37,11 +53,7 @@ fn answer_run(head: [u8; 320], file: &[u8], bytes: &[u8], memory: &mut [u16])
     let settings = header::settings(head);
     let state = header::state(head);
     let outcome = run(file, settings, state, memory, header::budget(head));
-    if head[111] < LONG {
-        line::print_run(outcome, memory);
-    } else {
-        line::print_long_run(outcome, memory);
-    }
+    print_run(head[111], outcome, memory);
 }
 
 // What stands in the lent slice before a load, a write or a join.
@@ -53,15 +65,22 @@ fn count_up(slice: &mut [u8]) {
     }
 }
 
+// The line of a load, a write or a join.
+fn print_filled(verb: Verb, answer: Answer, slice: &[u8]) {
+    let mut text = [0u8; LINE];
+    let n = line::filled_line(&mut text, verb, answer, slice);
+    print_start(text, n);
+}
+
 // A load (1) or a write (2), and its line.
 fn answer_filled(what: u8, input: &[u8], slice: &mut [u8]) {
     count_up(slice);
     if what == 1 {
         let loaded = load(input, slice);
-        line::print_filled(b"loaded", loaded, slice);
+        print_filled(Verb::Loaded, loaded, slice);
     } else {
         let written = write(input, slice);
-        line::print_filled(b"written", written, slice);
+        print_filled(Verb::Wrote, written, slice);
     }
 }
 
@@ -76,7 +95,7 @@ fn joined(first: &[u8], second: &[u8], out: &mut [u8]) -> Answer
 fn answer_join(first: &[u8], second: &[u8], out: &mut [u8]) {
     count_up(out);
     let answer = joined(first, second, out);
-    line::print_filled(b"joined", answer, out);
+    print_filled(Verb::Joined, answer, out);
 }
 
 // Boards combined, by the promise of the call.
@@ -91,11 +110,13 @@ fn combined(boards: [Board; 8], count: usize, mode: u16) -> Combined
 fn answer_combine(head: [u8; 320], file: &[u8]) {
     let count = header::budget(head) as usize;
     if file.len() != 9 * count {
-        print_text(b"short\n");
+        print(b"short\n");
         return;
     }
     let answer = combined(boards(file, count), count, header::mode_word(head));
-    line::print_combined(answer);
+    let mut text = [0u8; LINE];
+    let n = line::combined_line(&mut text, answer);
+    print_start(text, n);
 }
 
 // What a case asks for is a load (1) or a write (2).
@@ -141,13 +162,13 @@ fn answer(
     } else if what == COMBINE {
         answer_combine(head, file);
     } else {
-        print_text(b"unknown\n");
+        print(b"unknown\n");
     }
 }
 
 // The last line of a stream that breaks off or asks for too much.
 fn stop(text: &[u8]) -> bool {
-    print_text(text);
+    print(text);
     false
 }
 

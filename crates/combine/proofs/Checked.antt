@@ -1,6 +1,6 @@
 -- A program without strays, begun from A = 0 with SA clear and the mode word, runs a stretch of a dot product. Assumes nothing.
-use Prim.Native.Nat.{ℕ, zero, suc, _+_, _*_, _/_, _%_, _<_, _≤_}
-use mathlib.Core.Bool.{Bool, true, false, not, _&&_, _||_}
+use Prim.Native.Nat.{ℕ, zero, suc, _+_, _*_, _<_, _≤_}
+use mathlib.Core.Bool.{Bool, true, false, cond, not, _&&_, _||_}
 use mathlib.Core.List.{List}
 use mathlib.Core.Path.{_≡_, refl, sym, ap, _∙_, subst}
 use native.Mathlib.Omega.{arith}
@@ -12,9 +12,6 @@ use Rattle.accumulator.specs.Mode.{modeOf}
 use Rattle.accumulator.specs.declared.mode.Target.the-variants.{A}
 use Rattle.operations.specs.Encode.{encodeOf}
 use Rattle.operations.specs.declared.operation.Operation.{Operation}
-use Rattle.operations.specs.declared.operation.Operation.the-variants.{MacClass as MacOperation, AddAccumulators, Subtract, Negate, Shift, Lac, Add, Sac}
-use Rattle.operations.specs.declared.operation.Operation.the-variants.{SacR, Literal, Load, Store, Repeat, RepeatRegister, Do, DoRegister, EndEarly, SetMode}
-use Rattle.operations.specs.declared.operation.Operation.the-variants.{ClearSaturation}
 use Rattle.program.specs.File.{programOf}
 use Rattle.state.specs.declared.settings.Settings.{Settings}
 use Rattle.state.specs.declared.state.Core.{Core}
@@ -24,41 +21,25 @@ use Rattle.machine.specs.Write.{settleOf}
 use Rattle.machine.specs.Control.{controlOf, clears, stateControlled}
 use Rattle.machine.specs.Step.{operationAt, stateAfter}
 use Rattle.machine.proofs.Order.{modeAfter, controlled-frame}
+use Rattle.machine.proofs.ControlKinds.{by-kind}
 use Rattle.machine.proofs.Works.{settled-mode}
 use Rattle.engine.specs.Run.{Result}
 use Rattle.engine.specs.Engine.{Engine, engineTurn}
 use Rattle.engine.proofs.Holds.{holds-none}
 use Rattle.engine.proofs.Agree.{settle-stays}
 use Rattle.engine.proofs.Steps.{Leads, turn-completes, transition, each-listed}
-use Rattle.combine.specs.Dot.{writesA, addsToA, BoardCall, ranOn, StepFits, CallFits, setsOther, isStray, holdsStray}
+use Rattle.combine.specs.Dot.{byteOf, writesA, addsToA, BoardCall, ranOn, StepFits, CallFits, setsOther, isStray, holdsStray}
 use Rattle.combine.proofs.Stretches.{runOn, stretch-stepwise}
 
 -- ---- an operation
 
 -- one that sets no other mode word leaves this one
 same-mode : (mode : ℕ) (o : Operation) → setsOther mode o ≡ false → modeAfter (controlOf o) mode ≡ mode
-unfolding controlOf encodeOf
-same-mode mode (MacOperation k) h = refl
-same-mode mode (AddAccumulators t) h = refl
-same-mode mode (Subtract t) h = refl
-same-mode mode (Negate t) h = refl
-same-mode mode (Shift t r) h = refl
-same-mode mode (Lac t b2 o) h = refl
-same-mode mode (Add t b2 o) h = refl
-same-mode mode (Sac t b2 o) h = refl
-same-mode mode (SacR t b2 o) h = refl
-same-mode mode (Literal r v) h = refl
-same-mode mode (Load r p post) h = refl
-same-mode mode (Store r p post) h = refl
-same-mode mode (Repeat n) h = refl
-same-mode mode (RepeatRegister r) h = refl
-same-mode mode (Do n last) h = refl
-same-mode mode (DoRegister r last) h = refl
-same-mode mode EndEarly h = refl
-same-mode mode (SetMode word) h =
-    let is = eqb-true (word % 256 + 256 * (word / 256)) mode (not-false (eqb (word % 256 + 256 * (word / 256)) mode) h) in
-    omega (arith, is)
-same-mode mode ClearSaturation h = refl
+same-mode mode o h = by-kind o .mode mode ∙ go (eqb (byteOf o 0) 24) (byteOf o 2 + 256 * byteOf o 3) h
+  where
+    go : (t : Bool) (word : ℕ) → (t && not (eqb word mode)) ≡ false → cond t word mode ≡ mode
+    go true word h = eqb-true word mode (not-false (eqb word mode) h)
+    go false word h = refl
 
 -- ---- a step
 

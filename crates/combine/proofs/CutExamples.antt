@@ -6,8 +6,8 @@ use mathlib.Core.Path.{_≡_, refl}
 use native.Mathlib.Omega.{arith}
 use lib.IntN.{pos}
 use lib.ListN.{take, drop, replicate, getD-replicate}
+use Rattle.integers.specs.Range.{minus}
 use Rattle.accumulator.specs.declared.limit.Accumulator.{Accumulator}
-use Rattle.engine.proofs.RunExamples.{minus}
 use Rattle.combine.specs.Boards.{noBoard, boardAt}
 use Rattle.combine.specs.Dot.{Pair, BoardCall, pairsOn}
 use Rattle.combine.specs.Call.{Cut, HandsOver}

@@ -9,6 +9,7 @@ use lib.IntN.{ℤ, pos}
 use lib.ListN.{replicate}
 use Rattle.integers.specs.Bits.{signedOf}
 use Rattle.integers.proofs.Whole.{never}
+use Rattle.integers.specs.Range.{minus}
 use Rattle.accumulator.specs.Mode.{modeOf}
 use Rattle.accumulator.specs.Product.{readOf, productOf}
 use Rattle.accumulator.specs.declared.mode.Target.{Target}
@@ -36,10 +37,9 @@ use Rattle.engine.specs.Holds.{holds}
 use Rattle.engine.specs.Call.{runOf}
 use Rattle.engine.specs.Steps.{firstSteps}
 use Rattle.engine.proofs.Opened.{engine}
-use Rattle.engine.proofs.RunExamples.{trapping, plain, memory, start, minus, bare}
+use Rattle.engine.proofs.RunExamples.{trapping, plain, memory, start, bare}
 use Rattle.engine.proofs.Steps.{transition, each-listed}
 use Rattle.combine.specs.Dot.{Pair, dotOf, writesA, addsToA, pairOf, pairsIn, BoardCall, ranOn, pairsOn, StepFits, CallFits, isStray, holdsStray}
-use Rattle.combine.proofs.SumExamples.{board, sum}
 use Rattle.combine.proofs.Stretches.{runOn}
 use Rattle.combine.proofs.Checked.{checked-fits}
 

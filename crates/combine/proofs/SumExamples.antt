@@ -7,10 +7,9 @@ use lib.IntN.{ℤ, pos}
 use lib.ListN.{replicate}
 use Rattle.integers.specs.Floor.{remainderOf}
 use Rattle.integers.specs.Bits.{lowBits, signedOf}
-use Rattle.integers.specs.Range.{lowest, highest, outside, nearer}
+use Rattle.integers.specs.Range.{minus, lowest, highest, outside, nearer}
 use Rattle.accumulator.specs.Mode.{modeOf, isGoodMode, saturates}
 use Rattle.accumulator.specs.Limit.{limitBits, hasLeft, keptOf, overflows, writeOf, isAccumulator}
-use Rattle.engine.proofs.RunExamples.{minus}
 use Rattle.combine.specs.Boards.{areAccumulators, anySet, added, addedUp, combinedOf, combineRefusal, combineOf}
 use Rattle.combine.specs.Call.{Combines}
 use Rattle.combine.specs.declared.board.Board.{Board}

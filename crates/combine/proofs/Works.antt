@@ -3,7 +3,7 @@ use Prim.Native.Nat.{ℕ}
 use mathlib.Core.Bool.{Bool, true, false, _&&_}
 use mathlib.Core.List.{List}
 use mathlib.Core.Path.{_≡_, refl, sym, _∙_}
-use borrow.Author.Tests.{eq-eqb}
+use borrow.Author.Tests.{eqb-true, eq-eqb}
 use lib.Dec.{eqb, ltb}
 use lib.IntN.{ℤ, pos, negℤ, _+ℤ_, _-ℤ_}
 use lib.ListN.{length}
@@ -39,7 +39,8 @@ use Rattle.effects.specs.declared.effect.Exact.the-variants.{Keep, Replace}
 use Rattle.effects.specs.declared.effect.Value.{Value}
 use Rattle.effects.specs.declared.effect.Value.the-variants.{Word, Scaled}
 use Rattle.machine.specs.Control.{controlOf, clears}
-use Rattle.combine.specs.Dot.{pairProduct, isWritingKind, writesA, addsToA, pairOf}
+use Rattle.machine.proofs.ControlKinds.{by-kind}
+use Rattle.combine.specs.Dot.{pairProduct, byteOf, isWritingKind, writesA, addsToA, pairOf}
 
 -- an exact result that writes r to A, or leaves A
 abbrev pub Meets : ℤ → Bool → Exact → Type 0
@@ -153,23 +154,9 @@ module _ (s : Settings) (m : Mode) (signed : m .unsigned ≡ false) (c : Core) (
 
 -- what adds to A clears no flag
 pub adds-onward : (o : Operation) → (clears (controlOf o) && addsToA o) ≡ false
-unfolding controlOf addsToA encodeOf
-adds-onward (MacOperation k) = refl
-adds-onward (AddAccumulators t) = refl
-adds-onward (Subtract t) = refl
-adds-onward (Negate t) = refl
-adds-onward (Shift t r) = refl
-adds-onward (Lac t b2 o) = refl
-adds-onward (Add t b2 o) = refl
-adds-onward (Sac t b2 o) = refl
-adds-onward (SacR t b2 o) = refl
-adds-onward (Literal r v) = refl
-adds-onward (Load r p post) = refl
-adds-onward (Store r p post) = refl
-adds-onward (Repeat n) = refl
-adds-onward (RepeatRegister r) = refl
-adds-onward (Do n last) = refl
-adds-onward (DoRegister r last) = refl
-adds-onward EndEarly = refl
-adds-onward (SetMode word) = refl
-adds-onward ClearSaturation = refl
+unfolding addsToA
+adds-onward o = rw (by-kind o .flags) (go (byteOf o 0) (eqb (byteOf o 0) 25) refl)
+  where
+    go : (b : ℕ) (t : Bool) → eqb b 25 ≡ t → (t && (eqb b 3 && eqb (byteOf o 1) 0)) ≡ false
+    go b true e = rw (eqb-true b 25 e)
+    go b false e = refl

@@ -2,7 +2,8 @@
 use address::step::Buffer;
 use address::step::sum;
 use address::word::ByteAddress;
-use stream::number::magnitude;
+use address::word::MEMORY_START;
+use stream::text::magnitude;
 ghost use Prim.Native.Nat.{_<_, _^_};
 
 // The number drawn after x: 48,271 x modulo 2^31 - 1.
@@ -108,15 +109,19 @@ pub fn power(x: u64) -> u16 {
 }
 
 // Where buffers begin: low in memory, or so that they end at FFFF hex at most.
-fn base(x: u64) -> u64
-    ensures { λ r. ⌜ r < 2 ^ 16 ⌝ }
-{
-    if bit(x) { 0xffd0 } else { 0x1000 }
+fn base(x: u64) -> ByteAddress {
+    if bit(x) {
+        ByteAddress(0xffd0)
+    } else {
+        MEMORY_START
+    }
 }
 
 // A circular buffer of 6 to 34 bytes.
 pub fn buffer(x: u64, y: u64) -> Buffer {
-    let start = base(x) + x / 128 % 8 * 2;
+    let first = base(x);
+    let at = first.0;
+    let start = at as u64 + x / 128 % 8 * 2;
     let last = start + y / 8 % 15 * 2 + 5;
     Buffer {
         start: ByteAddress((start % 65536) as u16),

@@ -1,21 +1,30 @@
 // Text and numbers on standard output.
 use libc::STDOUT_FILENO;
-use stream::number::print_signed;
+use stream::line::LINE;
+use stream::print::print;
+use stream::print::print_start;
+use stream::text::append_number;
+use stream::text::append_signed;
 
 pub fn text(b: &[u8]) {
-    io::write_all(STDOUT_FILENO, b);
+    print(b);
 }
 
 pub fn number(n: u64) {
-    io::print_decimal(STDOUT_FILENO, n);
+    let mut out = [0u8; LINE];
+    let size = append_number(&mut out, 0, n);
+    print_start(out, size);
 }
 
+// The demonstration's words are in lower-case digits, those of a case's line in upper-case.
 pub fn hex(w: u16) {
     io::print_hex(STDOUT_FILENO, w as u64, 4);
 }
 
 pub fn signed(v: i64) {
-    print_signed(v);
+    let mut out = [0u8; LINE];
+    let size = append_signed(&mut out, 0, v);
+    print_start(out, size);
 }
 
 // An accumulator's value, and its flags where they are set.

@@ -1,3 +1,5 @@
+pub mod WorkExamples
 pub mod Traps
 pub mod Sums
-pub mod Works
+pub mod Operands
+pub mod Alike

@@ -66,7 +66,7 @@ sumAddress Y w = addressSum (register w 11) (register w 13)
 unfoldable pub prefetchAccess : Settings → Space → Prefetch → List ℕ → ℕ → Access
 prefetchAccess s space NoPrefetch w words = noAccess
 prefetchAccess s space (Pointer r c) w words =
-    accessAt (regionOf s words space) (register w r) (To r (movedOf (circularFor s space) r (register w r) (stepOf c)))
+    accessAt (regionOf s words space) (register w r) (To r (record { 0 = movedOf (circularFor s space) r (register w r) (stepOf c) }))
 prefetchAccess s space Sum w words = accessAt (regionOf s words space) (sumAddress space w) NoChange
 
 -- ---- write-back
@@ -75,7 +75,7 @@ prefetchAccess s space Sum w words = accessAt (regionOf s words space) (sumAddre
 unfoldable pub backAccess : Settings → WriteBack → List ℕ → ℕ → Access
 backAccess s NoWriteBack w words = noAccess
 backAccess s ToRegister w words = direct 13
-backAccess s ToMemory w words = accessAt (allWords words) (register w 13) (To 13 (movedOf (s .x) 13 (register w 13) (pos 2)))
+backAccess s ToMemory w words = accessAt (allWords words) (register w 13) (To 13 (record { 0 = movedOf (s .x) 13 (register w 13) (pos 2) }))
 
 -- ---- reads and pointer changes
 
@@ -88,4 +88,4 @@ wordAt (Memory i) w memory = getD memory (i .0) 0
 -- the registers after a pointer's change
 unfoldable pub changed : Change → List ℕ → List ℕ
 changed NoChange w = w
-changed (To r a) w = set w r a
+changed (To r a) w = set w r (a .0)

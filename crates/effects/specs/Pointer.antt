@@ -30,5 +30,5 @@ raisedOf s Store r a = cond (eqb r (s .reversed .register)) (nextOf (s .reversed
 -- forms 1 memory, 2 memory then + 2, 3 memory then − 2
 unfoldable pub changeOf : Settings → Purpose → PostModification → ℕ → ℕ → Change
 changeOf s purpose Stays r a = NoChange
-changeOf s purpose Increment r a = To r (raisedOf s purpose r a)
-changeOf s purpose Decrement r a = To r (movedOf (s .x) r a (negℤ (pos 2)))
+changeOf s purpose Increment r a = To r (record { 0 = raisedOf s purpose r a })
+changeOf s purpose Decrement r a = To r (record { 0 = movedOf (s .x) r a (negℤ (pos 2)) })

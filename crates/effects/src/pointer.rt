@@ -21,19 +21,17 @@ pub enum Purpose {
 // A pointer's change: none, or a register's new address.
 pub enum Change {
     None,
-    To { register: u8, address: u16 },
+    To { register: u8, address: ByteAddress },
 }
 
 // The address a of register r, stepped: corrected in the circular register alone.
-pub fn moved(circle: Circular, r: u8, a: ByteAddress, step: i16) -> u16
-    ensures { λ x. ⌜ x ≡ movedOf circle r (a .0) step ⌝ }
+pub fn moved(circle: Circular, r: u8, a: ByteAddress, step: i16) -> ByteAddress
+    ensures { λ x. ⌜ x .0 ≡ movedOf circle r (a .0) step ⌝ }
 {
     if r == circle.register {
-        let to = circular(circle.buffer, a, step);
-        to.0
+        circular(circle.buffer, a, step)
     } else {
-        let to = stepped(a, step);
-        to.0
+        stepped(a, step)
     }
 }
 
@@ -45,17 +43,22 @@ pub fn step_of(c: u8) -> i16
 }
 
 // The address a of register r, two bytes on or, in a store by the bit-reversed register, at the next index.
-fn raised(settings: Settings, purpose: Purpose, r: u8, a: ByteAddress, table: &[u16; 1024]) -> u16
+fn raised(
+    settings: Settings,
+    purpose: Purpose,
+    r: u8,
+    a: ByteAddress,
+    table: &[u16; 1024],
+) -> ByteAddress
     requires { ⌜ now table ≡ reversalTable ⌝ }
-    ensures { λ x. ⌜ x ≡ raisedOf settings purpose r (a .0) ⌝ }
+    ensures { λ x. ⌜ x .0 ≡ raisedOf settings purpose r (a .0) ⌝ }
 {
     let reversed = settings.reversed;
     match purpose {
         Purpose::Read => moved(settings.x, r, a, 2),
         Purpose::Store => {
             if r == reversed.register {
-                let to = next(table, reversed.words, a);
-                to.0
+                next(table, reversed.words, a)
             } else {
                 moved(settings.x, r, a, 2)
             }
@@ -88,14 +91,14 @@ pub fn change_of(
     }
 }
 
-// The pointer is changed.
+// The pointer is changed: its register holds the new address.
 pub fn change_pointer(what: Change, w: &mut [u16; 14])
     ensures { λ _. ⌜ now (w .exit) ≡ changed what (now (w .entry)) ⌝ }
 {
     match what {
         Change::None => {}
         Change::To { register, address } => {
-            set_register(w, register, address);
+            set_register(w, register, address.0);
         }
     }
 }

@@ -1,5 +1,5 @@
 -- From clear flags the engine's run is the ledger's, or the ledger leaves the limits and a flag stays set to the end. Assumes nothing.
-use Prim.Native.Nat.{ℕ, suc}
+use Prim.Native.Nat.{ℕ}
 use mathlib.Core.Bool.{true, false, false≢true}
 use mathlib.Core.Path.{_≡_, refl, sym, ap, _∙_, subst}
 use mathlib.Core.Logic.{_⊎_, inl, inr, ⊎-elim}
@@ -25,15 +25,13 @@ use Rattle.effects.specs.declared.effect.Exact.the-variants.{Keep, Replace}
 use Rattle.machine.specs.Write.{trapAfter, settleOf}
 use Rattle.machine.specs.Control.{controlOf, controlled, clears, stateControlled}
 use Rattle.machine.specs.Step.{Step, operationAt, stateAfter, completed, stepped}
-use Rattle.engine.specs.Run.{Stop, Turn, Result, complete, after}
-use Rattle.engine.specs.Run.Stop.{ended, left}
-use Rattle.engine.specs.Run.Turn.{over, last, next}
+use Rattle.engine.specs.Run.{Stop, Turn, Result, complete}
 use Rattle.engine.specs.Engine.{Engine, turnOf, engineTurn, engineDone, engineFrom}
 use Rattle.engine.specs.Ledger.{Entry, Ledger, exactTrap, keepExact, exactTurn, ledgerDone, exactFrom}
 use Rattle.engine.specs.Ledger.Beyond.{stops}
 use Rattle.engine.specs.Exact.{holdsClear, FlagsClear}
 use Rattle.engine.proofs.Holds.{holds-none}
-use Rattle.engine.proofs.Runs.{Keeps, run-keeps, run-pairs}
+use Rattle.engine.proofs.Runs.{Keeps, run-keeps, keeps-so, Into, TurnsAlike, AlikeWhere, AlikeUnless, run-alike}
 
 -- ---- what agreement is
 
@@ -69,27 +67,21 @@ flagged-clear s f c = ⊎-elim (λ e. false≢true (sym (c .sa) ∙ e)) (λ e. f
 abbrev Stays : Target → Turn Engine → Type 0
 Stays t = Keeps (λ (x : Engine). SetIn t (x .state)) (λ (x : Engine). SetIn t (x .state))
 
--- a step is made, and a flag is set after it
-abbrev Sets : Turn Engine → Type 0
-Sets (over e) = ⊥
-Sets (last e x) = FlaggedIn x
-Sets (next x) = FlaggedIn x
+-- the engine is the ledger with both flags clear
+abbrev pub IsClear : Engine → Ledger → Type 0
+IsClear x y = x ≡ clear y
 
 -- the engine's turn v is the ledger's turn u with both flags clear; where u leaves the limits v sets a flag
 abbrev pub Follows : Turn Engine → Turn Ledger → Type 0
-Follows v (over (ended e)) = v ≡ over (ended e)
-Follows v (over left) = Sets v
-Follows v (last e y) = v ≡ last e (clear y)
-Follows v (next y) = v ≡ next (clear y)
+Follows = TurnsAlike IsClear FlaggedIn
 
 -- the same of their runs x and y, where y stops like this
 abbrev pub Ends : Result Engine → Result Ledger → Stop → Type 0
-Ends x y (ended e) = x ≡ record { machine = clear (y .machine); steps = y .steps; stop = ended e }
-Ends x y left = FlaggedIn (x .machine)
+Ends = AlikeWhere IsClear FlaggedIn
 
 -- as it does
 abbrev pub Agree : Result Engine → Result Ledger → Type 0
-Agree x y = Ends x y (y .stop)
+Agree = AlikeUnless IsClear FlaggedIn
 
 -- ---- the exact result
 
@@ -149,15 +141,16 @@ module _ (p : List Operation) (o : Operation) (stays : clears (controlOf o) ≡ 
     settling-follows : (e : Exact) (c : Core) (memory : List ℕ) (l : List Entry)
         → Follows (settling p o traps m e (cleared c) memory) (keepExact stops p traps m o e c memory l)
     unfolding settleOf keepExact
-    settling-follows Keep c memory l = rw (controlled-clear c)
+    settling-follows Keep c memory l = record { machine = _; is = refl; there = rw (controlled-clear c) }
     settling-follows (Replace t r) c memory l =
         by-test (Follows (settling p o traps m (Replace t r) (cleared c) memory)) (hasLeft m t r)
         (λ e.
         let set = either (λ t. controlled-stays t _) (write-flags m t r c e) in
-        by-test Sets (eqb (trapAfter traps m t r) 0) (λ f. set) (λ f. set))
+        by-test (Into FlaggedIn) (eqb (trapAfter traps m t r) 0) (λ f. set) (λ f. set))
         (λ e.
         rw (trap-inside m traps t r e, write-exact m t r c e, controlled-clear (withAccumulator c t r (overflows r)))
-        (same-test Follows (eqb (exactTrap traps t r) 0) (λ f. refl) (λ f. refl)))
+        (same-test Follows (eqb (exactTrap traps t r) 0)
+        (λ f. record { machine = _; is = refl; there = refl }) (λ f. record { machine = _; is = refl; there = refl })))
 
     settling-stays : (t : Target) (e : Exact) (s : State) (memory : List ℕ) → SetIn t s → Stays t (settling p o traps m e s memory)
     settling-stays t e s memory h =
@@ -165,17 +158,6 @@ module _ (p : List Operation) (o : Operation) (stays : clears (controlOf o) ≡ 
         by-test (Stays t) (eqb (settleOf traps m e s .trap) 0) (λ f. set) (λ f. set)
 
 -- ---- a run
-
--- what follows a turn agrees, where a flag stays set and the runs from the next machine agree
-after-agrees : (k : ℕ) (y : Ledger) (f : Engine → Result Engine) (g : Ledger → Result Ledger) (v : Turn Engine) (u : Turn Ledger)
-    → Follows v u → ((x : Engine) → FlaggedIn x → FlaggedIn (f x .machine)) → ((y′ : Ledger) → Agree (f (clear y′)) (g y′))
-    → Agree (after (clear y) k f v) (after y k g u)
-after-agrees k y f g v (over (ended e)) h stuck on = rw h
-after-agrees k y f g (over e) (over left) h stuck on = absurd h
-after-agrees k y f g (last e x) (over left) h stuck on = h
-after-agrees k y f g (next x) (over left) h stuck on = stuck x h
-after-agrees k y f g v (last e y′) h stuck on = rw h
-after-agrees k y f g v (next y′) h stuck on = rw h (on y′)
 
 module _ (p : List Operation) (settings : Settings) (none : holdsClear p ≡ false) where
   -- a step from clear flags
@@ -209,17 +191,14 @@ module _ (p : List Operation) (settings : Settings) (none : holdsClear p ≡ fal
   run-stays t =
       run-keeps (engineDone p) (λ k. engineTurn p settings) (λ k x. SetIn t (x .state)) (λ x. SetIn t (x .state)) (λ k x h. h) (λ k x e h. turn-stays t x h)
 
-  pub run-flags : (n k : ℕ) (x : Engine) → FlaggedIn x → FlaggedIn (engineFrom p settings n k x .machine)
-  run-flags n k x h = either (λ t. run-stays t n k x) h
+  -- one of the two
+  turn-flags : (x : Engine) → FlaggedIn x → Keeps FlaggedIn FlaggedIn (engineTurn p settings x)
+  turn-flags x h =
+      ⊎-elim (λ f. keeps-so (λ z. inl) (engineTurn p settings x) (turn-stays A x f)) (λ f. keeps-so (λ z. inr) (engineTurn p settings x) (turn-stays B x f)) h
 
   -- a run from clear flags
   pub run-agrees : (n k : ℕ) (y : Ledger) → Agree (engineFrom p settings n k (clear y)) (exactFrom stops p settings n k y)
   run-agrees n k y =
-      run-pairs (engineDone p) (ledgerDone p) (λ k. engineTurn p settings) (exactTurn stops p settings) (λ x y. x ≡ clear y) Agree
-      (λ x y h. ap (engineDone p) h) (λ k e x y h. ap (λ (z : Engine). record { machine = z; steps = k; stop = ended e }) h)
-      (λ n k x y e h on.
-      subst (λ (z : Engine). Agree (after z k (engineFrom p settings n (suc k)) (engineTurn p settings z))
-      (after y k (exactFrom stops p settings n (suc k)) (exactTurn stops p settings k y))) (sym h)
-      (after-agrees k y (engineFrom p settings n (suc k)) (exactFrom stops p settings n (suc k))
-      (engineTurn p settings (clear y)) (exactTurn stops p settings k y) (turn-follows k y) (run-flags n (suc k)) (λ y′. on (clear y′) y′ refl)))
-      n k (clear y) y refl
+      run-alike IsClear FlaggedIn (engineDone p) (ledgerDone p) (λ k. engineTurn p settings) (exactTurn stops p settings) (λ x y h. ap (engineDone p) h)
+      (λ k x y e h. subst (λ (z : Engine). Follows (engineTurn p settings z) (exactTurn stops p settings k y)) (sym h) (turn-follows k y))
+      (λ k x e h. turn-flags x h) n k (clear y) y refl

@@ -1,7 +1,7 @@
 -- What the call for a run leaves, refused or run. Assumes nothing.
-use Prim.Native.Nat.{ℕ, _≤_}
+use Prim.Native.Nat.{ℕ, suc, _≤_}
 use mathlib.Core.Bool.{false}
-use mathlib.Core.List.{List}
+use mathlib.Core.List.{List, [], _∷_, _++_}
 use mathlib.Core.Path.{_≡_, refl, sym, ap, _∙_, subst}
 use native.Mathlib.Nat.{zero-add}
 use native.Mathlib.Omega.{arith}
@@ -16,13 +16,14 @@ use Rattle.machine.specs.Single.{callRefusal}
 use Rattle.machine.proofs.Order.{withSums}
 use Rattle.machine.proofs.Calls.{call-file, call-settings, call-state, if-refused}
 use Rattle.machine.proofs.Stands.{accepted-stands, stands-accepted}
+use Rattle.engine.specs.Ending.{numberOf, decimalOf, filledTo, nameOf}
 use Rattle.engine.specs.Run.{Result}
 use Rattle.engine.specs.Run.Stop.{ended}
 use Rattle.engine.specs.Engine.{Engine, engineDone, engineTurn, engineRun}
 use Rattle.engine.specs.Ledger.{onwardRun}
 use Rattle.engine.specs.Wraps.{holdsBarred, isSaturating}
-use Rattle.engine.specs.Call.{resultOf, refused, runOf, Runs}
-use Rattle.engine.specs.declared.ending.Ending.the-variants.{Refused}
+use Rattle.engine.specs.Call.{resultOf, refused, runOf, Runs, stopName, stopNumber}
+use Rattle.engine.specs.declared.ending.Ending.the-variants.{Done, Refused}
 use Rattle.engine.specs.declared.outcome.Outcome.{Outcome}
 use Rattle.engine.proofs.Runs.{run-within}
 use Rattle.engine.proofs.Sums.{exact-sums}
@@ -34,8 +35,12 @@ module _ (file : List ℕ) (settings : Settings) (s : State) (memory : List ℕ)
       → Runs file settings s memory budget (record { ending = Refused n; state = s; steps = 0 }) memory
   unfolding runOf
   call-refused n e h =
+      let is : refused n s memory ≡ runOf file settings s memory budget =
+      rw (sym e) (if-refused n (engineRun (programOf file) settings budget s memory) (refused n s memory) h) in
       record {
-        runs = rw (sym e) (if-refused n (engineRun (programOf file) settings budget s memory) (refused n s memory) h);
+        runs = is;
+        name = ap (λ (x : Result Engine). stopName (x .stop)) is;
+        number = ap (λ (x : Result Engine). stopNumber (x .stop)) is;
         within = omega arith;
         again = λ z. z;
         exact = λ z. absurd (h (e ∙ z));
@@ -72,8 +77,11 @@ module _ (file : List ℕ) (settings : Settings) (s : State) (memory : List ℕ)
   unfolding runOf
   call-run none typed ram r after is =
       let accepted : fileRefusal file ≡ 0 = call-file file settings s (length memory) none in
+      let same : resultOf r after ≡ runOf file settings s memory budget = rw none is in
       record {
-        runs = rw none is;
+        runs = same;
+        name = ap (λ (x : Result Engine). stopName (x .stop)) same;
+        number = ap (λ (x : Result Engine). stopNumber (x .stop)) same;
         within = rw (ap (λ (x : Result Engine). x .steps) is) run-steps;
         again =
             λ z.
@@ -87,6 +95,20 @@ module _ (file : List ℕ) (settings : Settings) (s : State) (memory : List ℕ)
             let stands = run-fit none typed ram .stands in
             rw is (wraps (programOf file) settings none-barred untrapped s memory budget off (stands .a) (stands .b));
       }
+
+-- a refused call, by the contract alone: its ending has the paper's name and number of that refusal
+pub refused-named : (file : List ℕ) (settings : Settings) (s : State) (memory : List ℕ) (budget n : ℕ) (r : Outcome) (after : List ℕ)
+    → callRefusal file settings s (length memory) ≡ suc n → Runs file settings s memory budget r after
+    → (nameOf (r .ending) ≡ filledTo 9 ((114 ∷ 101 ∷ 102 ∷ 117 ∷ 115 ∷ 101 ∷ 100 ∷ []) ++ decimalOf (suc n))) × (numberOf (r .ending) ≡ suc n)
+unfolding runOf nameOf numberOf
+refused-named file settings s memory budget n r after e h = (h .name ∙ rw e, h .number ∙ rw e)
+
+-- a run that is done, by the contract alone
+pub done-named : (file : List ℕ) (settings : Settings) (s : State) (memory : List ℕ) (budget : ℕ) (r : Outcome) (after : List ℕ)
+    → runOf file settings s memory budget .stop ≡ ended Done → Runs file settings s memory budget r after
+    → (nameOf (r .ending) ≡ filledTo 9 (100 ∷ 111 ∷ 110 ∷ 101 ∷ [])) × (numberOf (r .ending) ≡ 0)
+unfolding nameOf numberOf
+done-named file settings s memory budget r after e h = (h .name ∙ rw e, h .number ∙ rw e)
 
 -- two calls in a row, by their contracts alone: what an accepted call returned, however it ended, begins a run
 pub next-runs : (file : List ℕ) (settings : Settings) (s : State) (memory : List ℕ) (n m : ℕ) (r r′ : Outcome) (after after′ : List ℕ)

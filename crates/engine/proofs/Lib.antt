@@ -2,6 +2,8 @@ pub mod Opened
 pub mod Names
 pub mod NameExamples
 pub mod RunExamples
+pub mod LedgerExamples
+pub mod SumsExamples
 pub mod OverflowExamples
 pub mod StepExamples
 pub mod Table

@@ -16,8 +16,8 @@ use Rattle.engine.specs.Engine.{Engine, engineTurn, engineDone, engineFr
 use Rattle.engine.specs.Ledger.{Ledger, ledgerDone, exactTurn, exactFrom, exactRun, onwardRun}
 use Rattle.engine.specs.Ledger.Beyond.{goesOn}
 use Rattle.engine.specs.Wraps.{holdsBarred, isSaturating, Matches, Wraps}
-use Rattle.engine.proofs.Runs.{RunsAlike, run-alike}
-use Rattle.engine.proofs.SameSteps.{Going, step-going}
+use Rattle.engine.proofs.Runs.{RunsAlike, alike, run-alike}
+use Rattle.engine.proofs.SameSteps.{Going, Nowhere, step-going}
 
 going-matches : (x : Engine) (y : Ledger) → Going x y → Matches x y
 going-matches x y h =
@@ -35,9 +35,11 @@ going-matches x y h =
 module _ (p : List Operation) (settings : Settings) (none : holdsBarred p ≡ false) (untrapped : settings .traps ≡ 0) where
   -- the ledger may carry numbers of its own on from an earlier run
   pub run-going : (n k : ℕ) (x : Engine) (y : Ledger) → Going x y → RunsAlike Going (engineFrom p settings n k x) (exactFrom goesOn p settings n k y)
-  run-going =
-      run-alike Going (engineDone p) (ledgerDone p) (λ k x. engineTurn p settings x) (exactTurn goesOn p settings)
+  run-going n k x y h =
+      alike Going _ _
+      (run-alike Going Nowhere (engineDone p) (ledgerDone p) (λ k x. engineTurn p settings x) (exactTurn goesOn p settings)
       (λ x y h. ap (λ (z : Ledger). eqb (z .core .pc) (length p)) (sym (h .rest))) (λ k x y e. step-going p settings none untrapped k x y)
+      (λ k x e z. absurd z) n k x y h)
 
   pub wraps : (s : State) (memory : List ℕ) (budget : ℕ) → isSaturating (s .core .mode) ≡ false
       → let x = engineRun p settings budget s memory in

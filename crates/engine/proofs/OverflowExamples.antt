@@ -6,6 +6,7 @@ use mathlib.Core.List.{List, [], _∷_}
 use mathlib.Core.Path.{_≡_, refl}
 use lib.IntN.{pos}
 use lib.ListN.{set}
+use Rattle.integers.specs.Range.{minus}
 use Rattle.accumulator.specs.declared.mode.Target.{Target}
 use Rattle.accumulator.specs.declared.mode.Target.the-variants.{A, B}
 use Rattle.operations.specs.Encode.{encodeOf, actionByte}
@@ -33,7 +34,7 @@ use Rattle.engine.specs.Wraps.{isBarred, holdsBarred, isSaturating, Wrap
 use Rattle.engine.specs.declared.ending.Ending.the-variants.{Done, Spent, Trap}
 use Rattle.engine.proofs.Opened.{engine, exact, onward}
 use Rattle.engine.proofs.Holds.{none-holds}
-use Rattle.engine.proofs.RunExamples.{trapping, plain, memory, start, minus, ends, stops, bare, entry}
+use Rattle.engine.proofs.RunExamples.{trapping, plain, memory, start, ends, stops, bare, entry}
 
 -- ---- A and B hold the greatest number of 40 bits
 

@@ -3,10 +3,10 @@ use Prim.Native.Nat.{ℕ, _+_, _-_, _^_}
 use mathlib.Core.Path.{_≡_, refl}
 use mathlib.Core.Bool.{Bool, true, false}
 use mathlib.Core.List.{List, [], _∷_, map}
-use lib.IntN.{ℤ, pos, negℤ}
+use lib.IntN.{ℤ, pos}
 use lib.ListN.{set, replicate}
 use Rattle.integers.specs.Bits.{signedOf}
-use Rattle.integers.specs.Range.{lowest, highest, outside}
+use Rattle.integers.specs.Range.{minus, lowest, highest, outside}
 use Rattle.accumulator.specs.Mode.{isGoodMode, modeOf}
 use Rattle.accumulator.specs.Limit.{isAccumulator}
 use Rattle.accumulator.specs.declared.mode.Target.{Target}
@@ -61,10 +61,6 @@ memory = 100 ∷ 101 ∷ 102 ∷ 103 ∷ 104 ∷ 105 ∷ 106 ∷ 107 ∷ []
 abbrev pub start : State
 start = made (replicate 14 0) (pos 0) (pos 0) 0 noLoops 0 0x20 false false false false
 
--- a negative number
-abbrev pub minus : ℕ → ℤ
-minus n = negℤ (pos n)
-
 -- the engine ends so, with so many steps
 abbrev pub ends : Ending → ℕ → State → List ℕ → Result Engine
 ends e k s m = record { machine = record { state = s; memory = m }; steps = k; stop = ended e }
@@ -78,7 +74,7 @@ abbrev pub entry : ℕ → Place → ℤ → ℤ → Bool → Bool → Entry
 entry k place v word limiting rounded = record { step = k; place = place; value = v; word = word; limiting = limiting; rounded = rounded }
 
 -- memory word i
-abbrev word : ℕ → Place
+abbrev pub word : ℕ → Place
 word i = Memory (record { 0 = i })
 
 -- kinds 1 to 7
@@ -90,7 +86,7 @@ abbrev pub bare : Action → Target → ℕ → ℕ → WriteBack → Operation
 bare action t m n back = mac action t m n NoRead 0 back
 
 -- 13 ADD of W0, which adds 65,536 × W0
-abbrev adds : Target → Operation
+abbrev pub adds : Target → Operation
 adds t = Add t 8 (Direct 0)
 
 -- ---- done and spent
@@ -287,7 +283,7 @@ trap-4 = (refl, refl, refl)
 abbrev sum : List Operation
 sum = AddAccumulators A ∷ Literal 0 7 ∷ []
 
-abbrev near : State
+abbrev pub near : State
 near = start but inA (pos (2 ^ 31 - 1)) but inB (pos 1)
 
 -- 6 OA with OVATE, 0400 hex; without that bit it goes on
@@ -552,7 +548,7 @@ clearing = (refl, refl)
 -- ---- the list of stores
 
 -- the list after one operation
-abbrev lists : Operation → State → List Entry
+abbrev pub lists : Operation → State → List Entry
 lists o s = exact (o ∷ []) plain 9 s memory .machine .stores
 
 -- kind 14: 131,071 is 1 and 65,535 over, -1 is -1 and 65,535 over; kind 15 adds 1 to both; a half to the even one, and up with RND 1

@@ -21,6 +21,8 @@ use Rattle.state.specs.declared.state.State.{State}
 use Rattle.effects.specs.Effect.{Work}
 use Rattle.effects.specs.Operations.{workOf}
 use Rattle.effects.specs.declared.effect.Exact.{Exact}
+use Rattle.effects.proofs.Alike.{ExactsAlike}
+use Rattle.effects.proofs.Alike.ExactsAlike.{keep, replace}
 use Rattle.machine.specs.Write.{settleOf, valueWord, putRegister, putMemory}
 use Rattle.machine.specs.Control.{controlOf, controlled, stateControlled}
 use Rattle.machine.specs.Step.{Step, operationAt, stateAfter, uncounted, completed, stepped}
@@ -36,8 +38,7 @@ use Rattle.engine.specs.declared.ending.Ending.the-variants.{Trap}
 use Rattle.engine.specs.Wraps.{isBarred, holdsBarred, isSaturating}
 use Rattle.engine.proofs.Holds.{holds-none}
 use Rattle.engine.proofs.Runs.{TurnsAlike}
-use Rattle.engine.proofs.SameWorks.{SameExact, SameWork, unbarred}
-use Rattle.engine.proofs.SameWorks.SameExact.{keep, result}
+use Rattle.engine.proofs.SameWorks.{SameWork, unbarred}
 
 -- ---- what they have in common
 
@@ -51,6 +52,10 @@ pub record Going (x : Engine) (y : Ledger) : Type 0 where
   pub a : SameModulo 40 (x .state .core .a) (y .core .a)
   pub b : SameModulo 40 (x .state .core .b) (y .core .b)
   pub rest : y ≡ ledgerOf x (y .core .a) (y .core .b) (y .core .oa) (y .core .ob) (y .stores)
+
+-- the ledger that goes on never stops "left"
+abbrev pub Nowhere : Engine → Type 0
+Nowhere x = ⊥
 
 -- neither saturates
 off-each : (word : ℕ) → isSaturating word ≡ false → (t : Target) → saturates (modeOf word) t ≡ false
@@ -84,24 +89,34 @@ module _ (p : List Operation) (o : Operation) (leaves : (word : ℕ) → modeAft
       })
 
   -- the engine writes its exact result, the ledger keeps its own
-  settle-going : {e e′ : Exact} → SameExact e e′ → (s : State) (memory : List ℕ) (l : List Entry) (a b : ℤ) (oa ob : Bool)
+  settle-going : {e e′ : Exact} → ExactsAlike (SameModulo 40) e e′ → (s : State) (memory : List ℕ) (l : List Entry) (a b : ℤ) (oa ob : Bool)
       → isSaturating (s .core .mode) ≡ false → SameModulo 40 (s .core .a) a → SameModulo 40 (s .core .b) b
       → let m = modeOf (s .core .mode) in
-      TurnsAlike Going
+      TurnsAlike Going Nowhere
       (complete (settleOf 0 m e s .trap) (record { state = stateControlled p (controlOf o) (settleOf 0 m e s .state); memory = memory }))
       (keepExact goesOn p 0 m o e′ (withSums (s .core) a b oa ob) memory l)
   unfolding settleOf keepExact writeOf
-  settle-going keep s memory l a b oa ob off ha hb = control-going s memory l a b oa ob off ha hb
-  settle-going (result A {r} {r′} h) s memory l a b oa ob off ha hb =
+  settle-going keep s memory l a b oa ob off ha hb = record { machine = _; is = refl; there = control-going s memory l a b oa ob off ha hb }
+  settle-going (replace A {r} {r′} h) s memory l a b oa ob off ha hb =
       let m = modeOf (s .core .mode) in
       rw (no-trap m A r, no-exact-trap A r′)
-      (control-going (withWritten s A (writeOf (accumulatorAt s A) m A r)) memory l r′ b (overflows r′) ob off
-      (record { low = kept-modulo m A r (off-each (s .core .mode) off A) .low ∙ h .low }) hb)
-  settle-going (result B {r} {r′} h) s memory l a b oa ob off ha hb =
+      (record {
+        machine = _;
+        is = refl;
+        there =
+            control-going (withWritten s A (writeOf (accumulatorAt s A) m A r)) memory l r′ b (overflows r′) ob off
+            (record { low = kept-modulo m A r (off-each (s .core .mode) off A) .low ∙ h .low }) hb;
+      })
+  settle-going (replace B {r} {r′} h) s memory l a b oa ob off ha hb =
       let m = modeOf (s .core .mode) in
       rw (no-trap m B r, no-exact-trap B r′)
-      (control-going (withWritten s B (writeOf (accumulatorAt s B) m B r)) memory l a r′ oa (overflows r′) off ha
-      (record { low = kept-modulo m B r (off-each (s .core .mode) off B) .low ∙ h .low }))
+      (record {
+        machine = _;
+        is = refl;
+        there =
+            control-going (withWritten s B (writeOf (accumulatorAt s B) m B r)) memory l a r′ oa (overflows r′) off ha
+            (record { low = kept-modulo m B r (off-each (s .core .mode) off B) .low ∙ h .low });
+      })
 
 -- ---- a step
 
@@ -117,7 +132,7 @@ module _ (p : List Operation) (settings : Settings) (none : holdsBarred p ≡ fa
       → (u v : Work)
       → let m = modeOf (x .state .core .mode) in
       SameWork m u v
-      → TurnsAlike Going
+      → TurnsAlike Going Nowhere
       (turnOf (cond (eqb (u .effect .trap) 0) (completed p settings m o u (x .state) (x .memory)) (uncounted (x .state) (x .memory) (u .effect .trap))))
       (cond (eqb (v .effect .trap) 0)
       (keepExact goesOn p (settings .traps) m o (v .effect .exact)
@@ -127,12 +142,12 @@ module _ (p : List Operation) (settings : Settings) (none : holdsBarred p ≡ fa
   unfolding completed
   work-going o leaves x l a b oa ob off ha hb u v h =
       rw (sym (h .trap), sym (h .registers), sym (h .memory (x .memory)), untrapped)
-      (same-test (λ (r : Step) (t : Turn Ledger). TurnsAlike Going (turnOf r) t) (eqb (u .effect .trap) 0)
+      (same-test (λ (r : Step) (t : Turn Ledger). TurnsAlike Going Nowhere (turnOf r) t) (eqb (u .effect .trap) 0)
       (λ e. settle-going p o leaves (h .exact) (stateAfter (modeOf (x .state .core .mode)) u (x .state)) _ l a b oa ob off ha hb) (λ e. refl))
 
   turn-going : (k : ℕ) (x : Engine) (l : List Entry) (a b : ℤ) (oa ob : Bool)
       → isSaturating (x .state .core .mode) ≡ false → SameModulo 40 (x .state .core .a) a → SameModulo 40 (x .state .core .b) b
-      → TurnsAlike Going (engineTurn p settings x) (exactTurn goesOn p settings k (ledgerOf x a b oa ob l))
+      → TurnsAlike Going Nowhere (engineTurn p settings x) (exactTurn goesOn p settings k (ledgerOf x a b oa ob l))
   unfolding engineTurn stepped exactTurn
   turn-going k x l a b oa ob off ha hb =
       let c = x .state .core in
@@ -141,7 +156,7 @@ module _ (p : List Operation) (settings : Settings) (none : holdsBarred p ≡ fa
       let h = unbarred settings m c (x .memory) a b oa ob ha hb o (none-barred (c .pc)) in
       work-going o (h .mode) x _ a b oa ob off ha hb (workOf settings m o c (x .memory)) (workOf settings m o (withSums c a b oa ob) (x .memory)) (h .work)
 
-  pub step-going : (k : ℕ) (x : Engine) (y : Ledger) → Going x y → TurnsAlike Going (engineTurn p settings x) (exactTurn goesOn p settings k y)
+  pub step-going : (k : ℕ) (x : Engine) (y : Ledger) → Going x y → TurnsAlike Going Nowhere (engineTurn p settings x) (exactTurn goesOn p settings k y)
   step-going k x y h =
-      subst (λ (z : Ledger). TurnsAlike Going (engineTurn p settings x) (exactTurn goesOn p settings k z)) (sym (h .rest))
+      subst (λ (z : Ledger). TurnsAlike Going Nowhere (engineTurn p settings x) (exactTurn goesOn p settings k z)) (sym (h .rest))
       (turn-going k x (y .stores) (y .core .a) (y .core .b) (y .core .oa) (y .core .ob) (h .off) (h .a) (h .b))

@@ -1,11 +1,11 @@
 -- A run with budget n + m is the run with n and, if that is spent, the run with m from what it left, steps added. Assumes nothing.
-use Prim.Native.Nat.{ℕ, zero, suc, _+_}
-use mathlib.Core.Bool.{Bool, true, false, cond}
+use Prim.Native.Nat.{ℕ, _+_}
+use mathlib.Core.Bool.{Bool, false}
 use mathlib.Core.List.{List}
 use mathlib.Core.Path.{_≡_, refl, sym, ap, _∙_}
-use native.Mathlib.Nat.{zero-add, suc-add, add-suc, add-zero}
+use native.Mathlib.Nat.{add-zero}
 use lib.Dec.{eqb}
-use Rattle.integers.proofs.Whole.{by-test, same-test}
+use Rattle.integers.proofs.Whole.{by-test}
 use Rattle.accumulator.specs.Mode.{modeOf}
 use Rattle.accumulator.specs.declared.mode.Mode.{Mode}
 use Rattle.operations.specs.declared.operation.Operation.{Operation}
@@ -16,69 +16,13 @@ use Rattle.effects.specs.Operations.{workOf}
 use Rattle.effects.specs.declared.effect.Exact.{Exact}
 use Rattle.effects.specs.declared.effect.Exact.the-variants.{Keep, Replace}
 use Rattle.machine.specs.Step.{operationAt, stepped}
-use Rattle.engine.specs.Run.{Stop, Turn, Result, complete, after, run}
-use Rattle.engine.specs.Run.Stop.{ended, left}
-use Rattle.engine.specs.Run.Turn.{over, last, next}
+use Rattle.engine.specs.Run.{Stop, Result, complete}
+use Rattle.engine.specs.Run.Stop.{ended}
+use Rattle.engine.specs.Run.Turn.{last, next}
 use Rattle.engine.specs.Engine.{Engine, engineTurn, engineDone, engineFrom, engineRun}
 use Rattle.engine.specs.Ledger.{Entry, Ledger, Beyond, stopsAt, exactTrap, keepExact, exactTurn, ledgerDone, exactFrom, exactRun}
-use Rattle.engine.specs.declared.ending.Ending.the-variants.{Done, Spent, Trap, Refused}
-use Rattle.engine.proofs.Runs.{Avoids, run-done}
-
--- ---- any machine
-
--- the budget is spent
-abbrev pub isSpent : Stop → Bool
-isSpent (ended Done) = false
-isSpent (ended Spent) = true
-isSpent (ended (Trap n)) = false
-isSpent (ended (Refused n)) = false
-isSpent left = false
-
--- a run that is spent goes on: `on` from its machine and its steps
-abbrev pub goingOn : {S : Type 0} → (ℕ → S → Result S) → Result S → Result S
-goingOn on r = cond (isSpent (r .stop)) (on (r .steps) (r .machine)) r
-
-module _ {S : Type 0} (done : S → Bool) (turn : ℕ → S → Turn S) (ends : (k : ℕ) (s : S) → Avoids isSpent (turn k s)) where
-  after-split : (k : ℕ) (s : S) (f g : S → Result S) (on : ℕ → S → Result S) (u : Turn S) → Avoids isSpent u → ((s′ : S) → f s′ ≡ goingOn on (g s′))
-      → after s k f u ≡ goingOn on (after s k g u)
-  after-split k s f g on (over e) h step = rw h
-  after-split k s f g on (last e s′) h step = rw h
-  after-split k s f g on (next s′) h step = step s′
-
-  pub run-split : (n m k : ℕ) (s : S) → run done turn (n + m) k s ≡ goingOn (run done turn m) (run done turn n k s)
-  unfolding run
-  run-split zero m k s = ap (λ (b : ℕ). run done turn b k s) (zero-add m) ∙ go (done s) refl
-    where
-      go : (t : Bool) → done s ≡ t
-          → run done turn m k s ≡ goingOn (run done turn m) (record { machine = s; steps = k; stop = ended (cond t Done Spent) })
-      go true e = run-done done turn m k s e
-      go false e = refl
-  run-split (suc n) m k s =
-      ap (λ (b : ℕ). run done turn b k s) (suc-add n m)
-      ∙ same-test (λ a b. a ≡ goingOn (run done turn m) b) (done s) (λ e. refl)
-      (λ e.
-      after-split k s (run done turn (n + m) (suc k)) (run done turn n (suc k)) (run done turn m) (turn k s) (ends k s) (λ s′. run-split n m (suc k) s′))
-
--- ---- a machine that does not look at the steps made
-
--- a result with j steps made before it
-abbrev pub later : {S : Type 0} → ℕ → Result S → Result S
-later j r = record { machine = r .machine; steps = j + r .steps; stop = r .stop }
-
-module _ {S : Type 0} (done : S → Bool) (turn : S → Turn S) (j : ℕ) where
-  after-later : (k : ℕ) (s : S) (f g : S → Result S) (u : Turn S) → ((s′ : S) → f s′ ≡ later j (g s′)) → after s (j + k) f u ≡ later j (after s k g u)
-  after-later k s f g (over e) step = refl
-  after-later k s f g (last e s′) step = rw (add-suc j k)
-  after-later k s f g (next s′) step = step s′
-
-  pub run-later : (n k : ℕ) (s : S) → run done (λ i. turn) n (j + k) s ≡ later j (run done (λ i. turn) n k s)
-  unfolding run
-  run-later zero k s = refl
-  run-later (suc n) k s =
-      same-test (λ a b. a ≡ later j b) (done s) (λ e. refl)
-      (λ e.
-      after-later k s (run done (λ i. turn) n (suc (j + k))) (run done (λ i. turn) n (suc k)) (turn s)
-      (λ s′. ap (λ (i : ℕ). run done (λ i. turn) n i s′) (sym (add-suc j k)) ∙ run-later n (suc k) s′))
+use Rattle.engine.specs.declared.ending.Ending.the-variants.{Trap}
+use Rattle.engine.proofs.Runs.{Avoids, isSpent, goingOn, run-split, later, run-later}
 
 -- ---- the engine and the ledger
 

@@ -1,5 +1,5 @@
 -- The steps of a run are turns of its machine, each from where the one before it ended, and the last ends where the run does. Assumes nothing.
-use Prim.Native.Nat.{ℕ, zero, suc, _+_, _-_, _<_, _≤_}
+use Prim.Native.Nat.{ℕ, zero, suc, _+_, _<_, _≤_}
 use mathlib.Core.Bool.{Bool, true, false}
 use mathlib.Core.List.{List, [], _∷_, _++_, List·Memᴰ, List·Memᴰ·head, List·Memᴰ·not-nil, List·Memᴰ·append-cases, List·Memᴰ·eq-of-singleton}
 use mathlib.Core.List.{Memᴰ·append-left, Memᴰ·append-right}
@@ -29,8 +29,9 @@ use Rattle.engine.specs.Run.Stop.{ended}
 use Rattle.engine.specs.Run.Turn.{over, last, next}
 use Rattle.engine.specs.Engine.{Engine, turnOf, engineTurn, engineDone, engineRun}
 use Rattle.engine.specs.Call.{refused, runOf}
+use Rattle.engine.specs.declared.ending.Ending.{Ending}
 use Rattle.engine.specs.Steps.{Transition, firstSteps}
-use Rattle.engine.proofs.Runs.{run-done}
+use Rattle.engine.proofs.Runs.{run-done, run-spent, run-turn, by-run, run-counts}
 use Rattle.engine.proofs.Fits.{file-listed}
 
 -- ---- any machine that does not look at the steps made
@@ -50,79 +51,64 @@ module _ {S : Type 0} (done : S → Bool) (turn : S → Turn S) where
   abbrev StepsOn : S → S → Type 0
   StepsOn x y = (done x ≡ false) × Leads (turn x) y
 
-  after-counts : (k : ℕ) (s : S) (go : S → Result S) (u : Turn S) → ((s′ : S) → suc k ≤ go s′ .steps) → k ≤ after s k go u .steps
-  after-counts k s go (over e) on = omega arith
-  after-counts k s go (last e s′) on = omega arith
-  after-counts k s go (next s′) on = let l : suc k ≤ go s′ .steps = on s′ in omega arith
+  -- where a run makes at least one step more than i, step i + 1 leads from the machine after i to the one after i + 1
+  abbrev Leading : ℕ → ℕ → S → Result S → Type 0
+  Leading n k s r = (i : ℕ) → k + i < r .steps → StepsOn (from i k s .machine) (from (suc i) k s .machine)
 
-  -- the steps made before it are counted
-  run-counts : (n k : ℕ) (s : S) → k ≤ from n k s .steps
-  unfolding run
-  run-counts zero k s = omega arith
-  run-counts (suc n) k s =
-      by-test (λ (r : Result S). k ≤ r .steps) (done s) (λ e. omega arith)
-      (λ e. after-counts k s (from n (suc k)) (turn s) (λ s′. run-counts n (suc k) s′))
-
-  -- where a run makes a step, its machine is not done
-  undone : (i n k : ℕ) (s : S) → k + i < from n k s .steps → (t : Bool) → done s ≡ t → done s ≡ false
-  undone i n k s l true e =
-      let is : from n k s .steps ≡ k = ap (λ (r : Result S). r .steps) (run-done done (λ i. turn) n k s e) in
-      absurd (omega (arith, is))
-  undone i n k s l false e = e
-
-  -- the first step, by the turn u
-  first-step : (n k : ℕ) (s : S) (u : Turn S) → done s ≡ false → turn s ≡ u → k + 0 < after s k (from n (suc k)) u .steps
+  -- the first step, by a turn that leads to s′
+  first-leads : (k : ℕ) (s s′ : S) (u : Turn S) → done s ≡ false → turn s ≡ u → Leads u s′ → after s k (from 0 (suc k)) u .machine ≡ s′
       → StepsOn (from 0 k s .machine) (from 1 k s .machine)
-  unfolding run
-  first-step n k s (over e) d is l = absurd (omega arith)
-  first-step n k s (last e s′) d is l = (d, rw (d, is))
-  first-step n k s (next s′) d is l = (d, rw (d, is))
+  first-leads k s s′ u d is leads to =
+      rw (run-spent done (λ i. turn) k s d, run-turn done (λ i. turn) 0 k s u d is, to) (d, rw is leads)
 
-  -- a later one
-  later-step : (i n k : ℕ) (s : S) (u : Turn S) → done s ≡ false → turn s ≡ u → k + suc i < after s k (from n (suc k)) u .steps
-      → ((s′ : S) → suc k + i < from n (suc k) s′ .steps → StepsOn (from i (suc k) s′ .machine) (from (suc i) (suc k) s′ .machine))
-      → StepsOn (from (suc i) k s .machine) (from (suc (suc i)) k s .machine)
-  unfolding run
-  later-step i n k s (over e) d is l on = absurd (omega arith)
-  later-step i n k s (last e s′) d is l on = absurd (omega arith)
-  later-step i n k s (next s′) d is l on = rw (d, is) (on s′ (omega arith))
+  last-leads : (n k : ℕ) (s s′ : S) (e : Ending) → done s ≡ false → turn s ≡ last e s′ → Leading (suc n) k s (record { machine = s′; steps = suc k; stop = ended e })
+  last-leads n k s s′ e d is zero l = first-leads k s s′ (last e s′) d is refl refl
+  last-leads n k s s′ e d is (suc i) l = absurd (omega arith)
 
-  run-step : (i n k : ℕ) (s : S) → k + i < from n k s .steps → StepsOn (from i k s .machine) (from (suc i) k s .machine)
+  next-leads : (n k : ℕ) (s s′ : S) → done s ≡ false → turn s ≡ next s′ → Leading n (suc k) s′ (from n (suc k) s′) → Leading (suc n) k s (from n (suc k) s′)
   unfolding run
-  run-step i zero k s l = absurd (omega arith)
-  run-step zero (suc n) k s l =
-      let d = undone 0 (suc n) k s l (done s) refl in
-      first-step n k s (turn s) d refl (rw d at l)
-  run-step (suc i) (suc n) k s l =
-      let d = undone (suc i) (suc n) k s l (done s) refl in
-      later-step i n k s (turn s) d refl (rw d at l) (λ s′. run-step i n (suc k) s′)
+  next-leads n k s s′ d is on zero l = first-leads k s s′ (next s′) d is refl refl
+  next-leads n k s s′ d is on (suc i) l =
+      rw (run-turn done (λ i. turn) i k s (next s′) d is, run-turn done (λ i. turn) (suc i) k s (next s′) d is) (on i (omega arith))
 
-  -- after a turn u, which the run with a budget of j takes too
-  after-settled : (j n k : ℕ) (s : S) (u : Turn S) → done s ≡ false → turn s ≡ u → after s k (from n (suc k)) u .steps ≡ k + j
-      → ((j′ : ℕ) (s′ : S) → from n (suc k) s′ .steps ≡ suc k + j′ → from j′ (suc k) s′ .machine ≡ from n (suc k) s′ .machine)
-      → from j k s .machine ≡ after s k (from n (suc k)) u .machine
-  unfolding run
-  after-settled zero n k s (over e) d is l on = refl
-  after-settled zero n k s (last e s′) d is l on = absurd (omega arith)
-  after-settled zero n k s (next s′) d is l on =
-      let c : suc k ≤ from n (suc k) s′ .steps = run-counts n (suc k) s′ in
-      absurd (omega arith)
-  after-settled (suc j) n k s (over e) d is l on = absurd (omega arith)
-  after-settled (suc j) n k s (last e s′) d is l on = rw (d, is)
-  after-settled (suc j) n k s (next s′) d is l on = rw (d, is) (on j s′ (omega arith))
-
-  settled-by : (n j k : ℕ) (s : S) (t : Bool) → done s ≡ t → from (suc n) k s .steps ≡ k + j
-      → ((j′ : ℕ) (s′ : S) → from n (suc k) s′ .steps ≡ suc k + j′ → from j′ (suc k) s′ .machine ≡ from n (suc k) s′ .machine)
-      → from j k s .machine ≡ from (suc n) k s .machine
-  unfolding run
-  settled-by n j k s true e l on = ap (λ (r : Result S). r .machine) (run-done done (λ i. turn) j k s e) ∙ rw e
-  settled-by n j k s false e l on = rw e (after-settled j n k s (turn s) e refl (rw e at l) on)
+  run-step : (n k : ℕ) (s : S) → Leading n k s (from n k s)
+  run-step =
+      by-run done (λ i. turn) Leading
+      (record {
+        at-done = λ n k s d i l. absurd (omega arith);
+        at-spent = λ k s d i l. absurd (omega arith);
+        at-over = λ n k s e d is i l. absurd (omega arith);
+        at-last = last-leads;
+        at-next = next-leads;
+      })
 
   -- under a budget of the steps that it makes, a run ends on the same machine
-  run-settled : (n j k : ℕ) (s : S) → from n k s .steps ≡ k + j → from j k s .machine ≡ from n k s .machine
-  unfolding run
-  run-settled zero j k s l = let none : j ≡ 0 = omega arith in rw none
-  run-settled (suc n) j k s l = settled-by n j k s (done s) refl l (λ j′ s′. run-settled n j′ (suc k) s′)
+  abbrev Settled : ℕ → ℕ → S → Result S → Type 0
+  Settled n k s r = (j : ℕ) → r .steps ≡ k + j → from j k s .machine ≡ r .machine
+
+  -- with no step made
+  none-settled : (k : ℕ) (s : S) → done s ≡ false → (j : ℕ) → k ≡ k + j → from j k s .machine ≡ s
+  none-settled k s d zero l = ap (λ (r : Result S). r .machine) (run-spent done (λ i. turn) k s d)
+  none-settled k s d (suc j) l = absurd (omega arith)
+
+  last-settled : (n k : ℕ) (s s′ : S) (e : Ending) → done s ≡ false → turn s ≡ last e s′ → Settled (suc n) k s (record { machine = s′; steps = suc k; stop = ended e })
+  last-settled n k s s′ e d is zero l = absurd (omega arith)
+  last-settled n k s s′ e d is (suc j) l = ap (λ (r : Result S). r .machine) (run-turn done (λ i. turn) j k s (last e s′) d is)
+
+  next-settled : (n k : ℕ) (s s′ : S) → done s ≡ false → turn s ≡ next s′ → Settled n (suc k) s′ (from n (suc k) s′) → Settled (suc n) k s (from n (suc k) s′)
+  next-settled n k s s′ d is on zero l = let c : suc k ≤ from n (suc k) s′ .steps = run-counts done (λ i. turn) n (suc k) s′ in absurd (omega arith)
+  next-settled n k s s′ d is on (suc j) l = ap (λ (r : Result S). r .machine) (run-turn done (λ i. turn) j k s (next s′) d is) ∙ on j (omega arith)
+
+  run-settled : (n k : ℕ) (s : S) → Settled n k s (from n k s)
+  run-settled =
+      by-run done (λ i. turn) Settled
+      (record {
+        at-done = λ n k s d j l. ap (λ (r : Result S). r .machine) (run-done done (λ i. turn) j k s d);
+        at-spent = λ k s d. none-settled k s d;
+        at-over = λ n k s e d is. none-settled k s d;
+        at-last = last-settled;
+        at-next = next-settled;
+      })
 
 -- ---- the steps of a run
 
@@ -139,8 +125,8 @@ run-stepwise done turn start budget =
     let k = from done turn budget 0 start .steps in
     record {
       begins = refl;
-      leads = λ i l. run-step done turn i budget 0 start (omega arith);
-      ends = run-settled done turn budget k 0 start (omega arith);
+      leads = λ i l. run-step done turn budget 0 start i (omega arith);
+      ends = run-settled done turn budget 0 start k (omega arith);
     }
 
 -- the call for a run, refused or not

@@ -166,7 +166,7 @@ module _ (p : List Operation) (settings : Settings) (ok : (i : ℕ) → i < leng
         → Keeps (After (suc k) y) (After (suc k) y) u → Keeps (Reached (suc k)) (λ (y′ : Ledger). Rights (y′ .stores)) u
     unfolding run
     reached-after k y (over e) d reached f a = tt
-    reached-after k y (last e y′) d reached f a = rights-after k y y′ reached a (rw (d, f))
+    reached-after k y (last e y′) d reached f a = rights-after k y y′ reached a (rw (d, f .is) (f .there))
     reached-after k y (next y′) d reached f a =
         record {
           long = a .long;
@@ -174,8 +174,8 @@ module _ (p : List Operation) (settings : Settings) (ok : (i : ℕ) → i < leng
               λ n.
               ap (λ (b : ℕ). engineRun p settings b (cleared start) memory) (suc-add k n ∙ sym (add-suc k n))
               ∙ reached .through (suc n)
-              ∙ rw (d, f);
-          rights = rights-after k y y′ reached a (rw (d, f));
+              ∙ rw (d, f .is) (ap (engineFrom p settings n (suc k)) (f .there));
+          rights = rights-after k y y′ reached a (rw (d, f .is) (f .there));
         }
 
     pub run-rights : (budget : ℕ) → length (start .w) ≡ 14 → Rights (ledgerRun p settings budget start memory .machine .stores)

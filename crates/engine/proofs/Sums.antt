@@ -25,7 +25,7 @@ module _ (x : Result Engine) (y : Result Ledger) where
   flags-of : (stop : Stop) → y .stop ≡ stop → Ends x y stop → FlagsClear (x .machine .state) ↔ NeverLeft y
   flags-of (ended e) is a = (
     λ c l. false≢true (ap isLeft (sym is ∙ l)),
-    λ never. record { sa = ap (λ (r : Result Engine). r .machine .state .sa) a; sb = ap (λ (r : Result Engine). r .machine .state .sb) a },
+    λ never. record { sa = ap (λ (z : Engine). z .state .sa) (a .machines); sb = ap (λ (z : Engine). z .state .sb) (a .machines) },
   )
   flags-of left is a = (
     λ c. absurd (flagged-clear (x .machine .state) a c),
@@ -35,10 +35,10 @@ module _ (x : Result Engine) (y : Result Ledger) where
   alike-of : (stop : Stop) → y .stop ≡ stop → Ends x y stop → NeverLeft y → Alike x y
   alike-of (ended e) is a never =
       record {
-        core = ap (λ (r : Result Engine). r .machine .state .core) a;
-        memory = ap (λ (r : Result Engine). r .machine .memory) a;
-        steps = ap (λ (r : Result Engine). r .steps) a;
-        stop = ap (λ (r : Result Engine). r .stop) a ∙ sym is;
+        core = ap (λ (z : Engine). z .state .core) (a .machines);
+        memory = ap (λ (z : Engine). z .memory) (a .machines);
+        steps = a .steps;
+        stop = a .stop;
       }
   alike-of left is a never = absurd (never is)
 

@@ -1,7 +1,7 @@
 -- The call for a run: refused, or run; exact sums; exact even after overflow.
 use Prim.Native.Nat.{ℕ, _≤_}
 use mathlib.Core.Bool.{false}
-use mathlib.Core.List.{List}
+use mathlib.Core.List.{List, []}
 use mathlib.Core.Path.{_≡_}
 use lib.ListN.{length}
 use Rattle.program.specs.Answer.{ifAccepted}
@@ -9,8 +9,9 @@ use Rattle.program.specs.File.{programOf}
 use Rattle.state.specs.declared.settings.Settings.{Settings}
 use Rattle.state.specs.declared.state.State.{State}
 use Rattle.machine.specs.Single.{callRefusal}
-use Rattle.engine.specs.Run.{Result}
-use Rattle.engine.specs.Run.Stop.{ended}
+use Rattle.engine.specs.Ending.{nameOf, numberOf}
+use Rattle.engine.specs.Run.{Stop, Result}
+use Rattle.engine.specs.Run.Stop.{ended, left}
 use Rattle.engine.specs.Engine.{Engine, engineRun}
 use Rattle.engine.specs.Ledger.{ledgerRun, onwardRun}
 use Rattle.engine.specs.Exact.{holdsClear, FlagsClear, ExactSums}
@@ -32,10 +33,22 @@ runOf file settings s memory budget =
     let refusal = callRefusal file settings s (length memory) in
     ifAccepted refusal (engineRun (programOf file) settings budget s memory) (refused refusal s memory)
 
+-- how a run stops, by the paper's name and number; "left" is the ledger's alone
+abbrev pub stopName : Stop → List ℕ
+stopName (ended e) = nameOf e
+stopName left = []
+
+abbrev pub stopNumber : Stop → ℕ
+stopNumber (ended e) = numberOf e
+stopNumber left = 0
+
 -- what the call's outcome r and the memory after it are promised to be
 pub record Runs (file : List ℕ) (settings : Settings) (s : State) (memory : List ℕ) (budget : ℕ) (r : Outcome) (after : List ℕ) : Type 0 where
   -- the refusal, or the run by the definition of stepping and ending
   pub runs : resultOf r after ≡ runOf file settings s memory budget
+  -- its ending by the paper's name and number
+  pub name : nameOf (r .ending) ≡ stopName (runOf file settings s memory budget .stop)
+  pub number : numberOf (r .ending) ≡ stopNumber (runOf file settings s memory budget .stop)
   -- within its budget
   pub within : r .steps ≤ budget
   -- an accepted call returns a state that is accepted again, for every ending

@@ -21,6 +21,8 @@ use Rattle.state.specs.State.{noLoops, resetState}
 use Rattle.state.specs.declared.settings.Settings.{Settings}
 use Rattle.state.specs.declared.state.Loops.{Loops}
 use Rattle.state.specs.declared.state.State.{State}
+use Rattle.machine.specs.Loops.{innerPasses}
+use Rattle.machine.specs.Control.{endedEarly}
 use Rattle.engine.specs.Run.{Stop, Result}
 use Rattle.engine.specs.Run.Stop.{ended}
 use Rattle.engine.specs.Engine.{Engine, engineRun}
@@ -74,6 +76,10 @@ lookLoops x =
     ∷ pos (x .machine .state .core .loops .depth)
     ∷ pos (getD (x .machine .state .core .loops .passes) 0 0)
     ∷ []
+
+-- the passes left that end early gives the innermost loop, before the loop's own fall by 1
+abbrev pub passesBefore : List Operation → State → ℤ
+passesBefore p s = pos (innerPasses (endedEarly p (s .core) .loops))
 
 -- the steps, A
 abbrev pub lookSteps : Result Engine → List ℤ
@@ -167,6 +173,12 @@ summed mode v = row (AddAccumulators A ∷ []) (startOf (replicate 14 0) (pos (2
 abbrev stores8 : List Operation
 stores8 = Store 0 8 Increment ∷ Store 0 8 Increment ∷ []
 
+-- end early in the last place of a loop with n passes left: the passes left before the loop's own fall; after it pc, the number of active loops, the passes left
+abbrev early : Ending → ℕ → List ℤ → Row
+early e n said =
+    let p : List Operation = Do 9 2 ∷ EndEarly ∷ EndEarly ∷ [] in
+    rowIn (plainSettings 200) 1 e p (inLoop n) (λ x. passesBefore p (inLoop n) ∷ lookLoops x) said
+
 unfoldable pub table : List Row
 table =
     -- A: 3 × −2, reset mode: −12
@@ -193,9 +205,9 @@ table =
     -- H: N 8, 1200 then 1208 then 1204 (hex)
     ∷ rowIn reversed8 1 Spent stores8 (startOf (only 8 0x1200) (pos 0) (pos 0) 0x20) (lookAt 8) (pos 0x1208 ∷ [])
     ∷ rowIn reversed8 2 Done stores8 (startOf (only 8 0x1200) (pos 0) (pos 0) 0x20) (lookAt 8) (pos 0x1204 ∷ [])
-    -- I: last place, passes 5 becomes 2, 1 stays 1, both before the loop's own fall by 1: back at DO + 1 with 1 left; the loop's end
-    ∷ rowIn (plainSettings 200) 1 Spent (Do 9 2 ∷ EndEarly ∷ EndEarly ∷ []) (inLoop 5) lookLoops (pos 1 ∷ pos 1 ∷ pos 1 ∷ [])
-    ∷ rowIn (plainSettings 200) 1 Done (Do 9 2 ∷ EndEarly ∷ EndEarly ∷ []) (inLoop 1) lookLoops (pos 3 ∷ pos 0 ∷ pos 0 ∷ [])
+    -- I: last place, passes 5 becomes 2, 1 stays 1, both before the loop's own fall by 1: then back at DO + 1 with 1 left; the loop's end
+    ∷ early Spent 5 (pos 2 ∷ pos 1 ∷ pos 1 ∷ pos 1 ∷ [])
+    ∷ early Done 1 (pos 1 ∷ pos 3 ∷ pos 0 ∷ pos 0 ∷ [])
     -- J: DO 0, one pass: done after three steps
     ∷ row (Do 0 2 ∷ Literal 0 7 ∷ Literal 1 8 ∷ []) resetState lookSteps (pos 3 ∷ pos 0 ∷ [])
     -- K: X 1 minus Y 2: FFFF hex

@@ -22,7 +22,7 @@ use Rattle.machine.specs.Control.{controlOf, clears}
 use Rattle.machine.specs.Single.{callRefusal}
 use Rattle.machine.proofs.Stands.{accepted-stands, stands-accepted}
 use Rattle.machine.proofs.Calls.{call-settings, call-state}
-use Rattle.engine.specs.Run.{Result}
+use Rattle.engine.specs.Run.{isDone, Result}
 use Rattle.engine.specs.Engine.{Engine, engineRun}
 use Rattle.engine.specs.Exact.{holdsClear}
 use Rattle.engine.specs.Wraps.{isBarred, holdsBarred}
@@ -93,7 +93,7 @@ module _ (first second : List ℕ) (h : Joinable first second (operationCount fi
     -- refused or accepted
     call-both : (n : ℕ) → settingsRefusal settings (length memory) then stateRefusal p s ≡ n
         → ifAccepted n (engineRun (joined p q) settings budget s memory) (refused n s memory)
-        ≡ thenOn on budget (ifAccepted n (engineRun p settings budget s memory) (refused n s memory))
+        ≡ thenOn isDone on budget (ifAccepted n (engineRun p settings budget s memory) (refused n s memory))
     call-both zero e =
         let fits = then-first (settingsRefusal settings (length memory)) (stateRefusal p s) e in
         joined-runs p q (file-accepted first (h .firstAccepted)) (file-accepted second (h .secondAccepted)) settings (length memory) budget s memory

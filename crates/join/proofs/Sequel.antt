@@ -15,12 +15,12 @@ use Rattle.state.specs.declared.state.State.{State}
 use Rattle.machine.specs.Step.{Step, stepped}
 use Rattle.machine.proofs.Stands.{restart-stands}
 use Rattle.machine.proofs.Ends.{done-loops, done-repeat}
-use Rattle.engine.specs.Run.{isDone, Turn, Result}
+use Rattle.engine.specs.Run.{isLeft, isDone, Turn, Result}
 use Rattle.engine.specs.Run.Turn.{over, last, next}
 use Rattle.engine.specs.Engine.{Engine, turnOf, engineTurn, engineDone, engineFrom, engineRun}
 use Rattle.engine.proofs.Fits.{Fit, at-operation, turn-fits}
-use Rattle.engine.proofs.Runs.{Keeps, turnTo, run-maps, Avoids, thenOn, run-then}
-use Rattle.engine.proofs.Split.{later, engine-ends, engine-later}
+use Rattle.engine.proofs.Runs.{Keeps, Avoids, turnTo, run-maps, thenOn, run-then, later}
+use Rattle.engine.proofs.Split.{engine-ends, engine-later}
 use Rattle.join.specs.Join.{joined}
 use Rattle.join.specs.Both.{movedStarts, movedEngine, movedResult}
 use Rattle.join.proofs.Moved.{joined-length, PartOf, first-part, second-part}
@@ -89,14 +89,15 @@ module _ (p q : List Operation) (ok : Accepted p) (ok′ : Accepted q) (settings
   -- at an operation of the second
   second-moved : (k : ℕ) (x : Engine) → engineDone q x ≡ false → Fit q words x
       → (engineTurn (joined p q) settings (movedEngine n x) ≡ turnTo (movedEngine n) (engineTurn q settings x))
-      × Keeps (Fit q words) (Fit q words) (engineTurn q settings x)
+      × Avoids isLeft (engineTurn q settings x) × Keeps (Fit q words) (Fit q words) (engineTurn q settings x)
   second-moved k x more h = (
     part-turn (joined p q) q n (second-part p q) settings words x more h,
+    engine-ends isLeft (λ trap. refl) q settings x,
     turn-fits q (ok′ .placed) (ok′ .listed) settings words x more h,
   )
 
-  second-done : (x : Engine) → engineDone q x ≡ engineDone (joined p q) (movedEngine n x)
-  second-done x = sym (rw (joined-length p q) (eqb-moved n (x .state .core .pc) (length q)))
+  second-done : (x : Engine) → engineDone (joined p q) (movedEngine n x) ≡ engineDone q x
+  second-done x = rw (joined-length p q) (eqb-moved n (x .state .core .pc) (length q))
 
   -- ---- where the first is done
 
@@ -127,9 +128,9 @@ module _ (p q : List Operation) (ok : Accepted p) (ok′ : Accepted q) (settings
   pub joined-runs : (budget : ℕ) (s : State) (memory : List ℕ) → Fit p words (record { state = s; memory = memory })
       → (on : ℕ → ℕ → Engine → Result Engine)
       → ((m k : ℕ) (x : Engine) → Fit p words x → movedResult n k (engineRun q settings m (restartedState (x .state)) (x .memory)) ≡ on m k x)
-      → engineRun (joined p q) settings budget s memory ≡ thenOn on budget (engineRun p settings budget s memory)
+      → engineRun (joined p q) settings budget s memory ≡ thenOn isDone on budget (engineRun p settings budget s memory)
   unfolding engineRun
   joined-runs budget s memory h on same =
       run-then (engineDone p) (engineDone (joined p q)) (λ k. engineTurn p settings) (λ k. engineTurn (joined p q) settings) (Fit p words) on
       first-same (λ m k x done g. second-runs x done g m k ∙ same m k x g) budget 0 (record { state = s; memory = memory }) h
-      ∙ ap (λ (t : ℕ). thenOn on t (engineRun p settings budget s memory)) (add-zero budget)
+      ∙ ap (λ (t : ℕ). thenOn isDone on t (engineRun p settings budget s memory)) (add-zero budget)

@@ -24,7 +24,7 @@ use Rattle.effects.specs.Effect.{Work}
 use Rattle.effects.specs.Operations.{workOf}
 use Rattle.effects.specs.declared.effect.Exact.{Exact}
 use Rattle.effects.specs.declared.effect.Exact.the-variants.{Keep, Replace}
-use Rattle.effects.proofs.Works.{work-elsewhere}
+use Rattle.effects.proofs.Alike.{work-elsewhere}
 use Rattle.machine.specs.Loops.{innerStart, innerPasses, pushed, withPasses, popped}
 use Rattle.machine.specs.Write.{settleOf}
 use Rattle.machine.specs.Control.{innerLast, fallen, advanced, repeated, entered, endedEarly, controlOf, controlled, stateControlled}

@@ -4,6 +4,7 @@ pub mod CallExamples
 pub mod StepExamples
 pub mod Works
 pub mod Order
+pub mod ControlKinds
 pub mod Words
 pub mod Places
 pub mod Nested

@@ -1,7 +1,7 @@
--- What the work of every listed operation has in common: as many registers as before, a store to a place of the machine, words of 16 bits. Assumes
--- nothing.
+-- What the work of every listed operation has in common: as many registers as before, with a trap the same ones, a store to a place of the machine, words of
+-- 16 bits, a free slot where a DO has no trap. Assumes nothing.
 use Prim.Native.Nat.{ℕ, zero, suc, _<_}
-use mathlib.Core.Bool.{true}
+use mathlib.Core.Bool.{Bool, true, false}
 use mathlib.Core.Path.{_≡_, refl, _∙_}
 use mathlib.Core.List.{List, [], _∷_}
 use native.Mathlib.Omega.{arith}
@@ -9,7 +9,7 @@ use lib.Dec.{eqb, ltb, lit<}
 use lib.IntN.{ℤ, pos}
 use lib.ListN.{length, length-set}
 use borrow.Author.Tests.{ltb-true, eqb-true}
-use Rattle.integers.proofs.Whole.{both, by-test}
+use Rattle.integers.proofs.Whole.{never, both, by-test}
 use Rattle.integers.specs.Bits.{signedOf}
 use Rattle.accumulator.specs.Shift.{shiftAllowed}
 use Rattle.accumulator.specs.declared.mode.Mode.{Mode}
@@ -34,7 +34,7 @@ use Rattle.state.specs.Typed.{AreWords}
 use Rattle.state.specs.declared.settings.Settings.{Settings}
 use Rattle.state.specs.declared.state.Core.{Core}
 use Rattle.effects.specs.Access.{operandAccess, backAccess, changed}
-use Rattle.effects.specs.Effect.{Work, blocked, unlessTrap}
+use Rattle.effects.specs.Effect.{Work, quiet, blocked, results, unlessTrap}
 use Rattle.effects.specs.Mac.{macAccesses, macTrap, isDistance, loaded, arrived, macRegisters, macWork}
 use Rattle.effects.specs.Operations.{shiftWork, loadWork, storeWork, moveWork, loopWork, workOf}
 use Rattle.effects.specs.declared.pointer.Purpose.{Purpose}
@@ -46,6 +46,7 @@ use Rattle.effects.specs.declared.access.Place.{Place}
 use Rattle.effects.specs.declared.access.Place.the-variants.{Nowhere, Register, Memory}
 use Rattle.effects.specs.declared.effect.Value.{Value}
 use Rattle.effects.specs.declared.mac.Accesses.{Accesses}
+use Rattle.machine.specs.Control.{controlOf, begins}
 use Rattle.machine.specs.Step.{operationAt}
 use Rattle.machine.proofs.Words.{ValueWord, changed-words, operand-change, prefetch-change, back-change, read-word, arrived-words, scaled-word, plain-word}
 
@@ -60,7 +61,7 @@ Fits words (Memory i) = i .0 < words
 changed-long : (change : Change) (w : List ℕ) → length (changed change w) ≡ length w
 unfolding changed
 changed-long NoChange w = refl
-changed-long (To r a) w = length-set w r a
+changed-long (To r a) w = length-set w r (a .0)
 
 operand-fits : (s : Settings) (purpose : Purpose) (b2 : ℕ) (o : Operand) (w : List ℕ) (words : ℕ) → isListedOperand b2 o ≡ true
     → operandAccess s purpose o w words .trap ≡ 0 → Fits words (operandAccess s purpose o w words .place)
@@ -99,22 +100,29 @@ module _ (s : Settings) (m : Mode) (c : Core) (memory : List ℕ) where
   abbrev Worded : Work → Type 0
   Worded work = AreWords (c .w) → AreWords memory → AreWords (work .w) × ValueWord (work .effect .value)
 
-  -- as many registers as before, a place of the machine, words
-  pub record Fitted (work : Work) : Type 0 where
+  -- as many registers as before, with a trap the same ones; a place of the machine; words; where a loop begins without a trap, a free slot
+  pub record Fitted (loops : Bool) (work : Work) : Type 0 where
     pub long : length (work .w) ≡ length (c .w)
+    pub leaves : (work .effect .trap ≡ 0 → ⊥) → work .w ≡ c .w
     pub place : Fits (length memory) (work .effect .place)
     pub words : Worded work
+    pub slot : loops ≡ true → work .effect .trap ≡ 0 → c .loops .depth < 4
 
   -- registers that stay, and no store
-  none-fitted : (trap : ℕ) → Fitted (blocked (c .w) trap)
-  none-fitted trap = record { long = refl; place = tt; words = λ h k. (h, plain-word 0 (lit< tt)) }
+  none-fitted : (loops : Bool) (trap : ℕ) → (loops ≡ true → trap ≡ 0 → c .loops .depth < 4) → Fitted loops (blocked (c .w) trap)
+  none-fitted loops trap free = record { long = refl; leaves = λ z. refl; place = tt; words = λ h k. (h, plain-word 0 (lit< tt)); slot = free }
 
   -- with a trap that is all
-  unless-fitted : (trap : ℕ) (work : Work) → (trap ≡ 0 → Fitted work) → Fitted (unlessTrap (c .w) trap work)
+  unless-fitted : (trap : ℕ) (work : Work) → (trap ≡ 0 → Fitted false work) → Fitted false (unlessTrap (c .w) trap work)
   unless-fitted trap work h =
-      by-test Fitted (eqb trap 0) {x = work} {y = blocked (c .w) trap} (λ e. h (eqb-true trap 0 e)) (λ e. none-fitted trap)
+      by-test (Fitted false) (eqb trap 0) {x = work} {y = blocked (c .w) trap} (λ e. h (eqb-true trap 0 e)) (λ e. none-fitted false trap (λ z. never z))
 
-  mac-fitted : (q : MacClass) → Fitted (macWork s m q c memory)
+  -- an exact result that leaves the registers
+  results-fitted : (t : Target) (r : ℤ) → Fitted false (results (c .w) t r)
+  results-fitted t r =
+      record { long = refl; leaves = λ z. refl; place = tt; words = λ h k. (h, plain-word 0 (lit< tt)); slot = λ z. never z }
+
+  mac-fitted : (q : MacClass) → Fitted false (macWork s m q c memory)
   unfolding macWork macAccesses macRegisters
   mac-fitted q =
       let a = macAccesses s q (c .w) (length memory) in
@@ -123,6 +131,7 @@ module _ (s : Settings) (m : Mode) (c : Core) (memory : List ℕ) where
       let free : a .back .trap ≡ 0 = then-second (a .y .trap) _ (then-second (a .x .trap) _ e) in
       record {
         long = registers-long q a (c .w) memory;
+        leaves = λ z. absurd (z refl);
         place = back-fits s (q .back) (c .w) (length memory) free;
         words =
             λ h k. (
@@ -132,28 +141,34 @@ module _ (s : Settings) (m : Mode) (c : Core) (memory : List ℕ) where
                   (changed-words (a .x .change) (c .w) (prefetch-change s X (q .x) (c .w) (length memory)) h))),
               scaled-word true _,
             );
+        slot = λ z. never z;
       })
 
-  shift-fitted : (t : Target) (n : ℤ) → Fitted (shiftWork t n c)
+  shift-fitted : (t : Target) (n : ℤ) → Fitted false (shiftWork t n c)
   unfolding shiftWork
-  shift-fitted t n =
-      by-test Fitted (shiftAllowed n) (λ e. record { long = refl; place = tt; words = λ h k. (h, plain-word 0 (lit< tt)) }) (λ e. none-fitted 3)
+  shift-fitted t n = by-test (Fitted false) (shiftAllowed n) (λ e. results-fitted t _) (λ e. none-fitted false 3 (λ z. never z))
 
   -- the registers after an operand's access
   operand-words : (purpose : Purpose) (o : Operand) → AreWords (c .w) → AreWords (changed (operandAccess s purpose o (c .w) (length memory) .change) (c .w))
   operand-words purpose o h =
       changed-words (operandAccess s purpose o (c .w) (length memory) .change) (c .w) (operand-change s purpose o (c .w) (length memory) h) h
 
-  load-fitted : (t : Target) (v : ℤ) (b2 : ℕ) (from : Operand) → Fitted (loadWork s t v b2 from c memory)
+  load-fitted : (t : Target) (v : ℤ) (b2 : ℕ) (from : Operand) → Fitted false (loadWork s t v b2 from c memory)
   unfolding loadWork
   load-fitted t v b2 from =
       let a = operandAccess s Read from (c .w) (length memory) in
       unless-fitted (a .trap) _
       (λ e.
-      record { long = changed-long (a .change) (c .w); place = tt; words = λ h k. (operand-words Read from h, plain-word 0 (lit< tt)) })
+      record {
+        long = changed-long (a .change) (c .w);
+        leaves = λ z. absurd (z refl);
+        place = tt;
+        words = λ h k. (operand-words Read from h, plain-word 0 (lit< tt));
+        slot = λ z. never z;
+      })
 
   store-fitted : (b2 : ℕ) (to : Operand) (v : Value) → isListedOperand b2 to ≡ true → (AreWords (c .w) → ValueWord v)
-      → Fitted (storeWork s to v c memory)
+      → Fitted false (storeWork s to v c memory)
   unfolding storeWork
   store-fitted b2 to v ok hv =
       let a = operandAccess s Storing to (c .w) (length memory) in
@@ -161,11 +176,13 @@ module _ (s : Settings) (m : Mode) (c : Core) (memory : List ℕ) where
       (λ e.
       record {
         long = changed-long (a .change) (c .w);
+        leaves = λ z. absurd (z refl);
         place = operand-fits s Storing b2 to (c .w) (length memory) ok e;
         words = λ h k. (operand-words Storing to h, hv h);
+        slot = λ z. never z;
       })
 
-  move-fitted : (to p : ℕ) (post : PostModification) → isRegister to ≡ true → Fitted (moveWork s to p post c memory)
+  move-fitted : (to p : ℕ) (post : PostModification) → isRegister to ≡ true → Fitted false (moveWork s to p post c memory)
   unfolding moveWork
   move-fitted to p post ok =
       let a = operandAccess s Read (Pointed p post) (c .w) (length memory) in
@@ -173,20 +190,28 @@ module _ (s : Settings) (m : Mode) (c : Core) (memory : List ℕ) where
       (λ e.
       record {
         long = changed-long (a .change) (c .w);
+        leaves = λ z. absurd (z refl);
         place = ltb-true to 14 ok;
         words = λ h k. (operand-words Read (Pointed p post) h, plain-word _ (read-word (a .place) (c .w) memory h k));
+        slot = λ z. never z;
       })
 
-  loop-fitted : Fitted (loopWork c)
+  loop-fitted : Fitted true (loopWork c)
   unfolding loopWork
-  loop-fitted = by-test Fitted (ltb (c .loops .depth) 4) (λ e. none-fitted 0) (λ e. none-fitted 4)
+  loop-fitted =
+      by-test (Fitted true) (ltb (c .loops .depth) 4) (λ e. none-fitted true 0 (λ t z. ltb-true (c .loops .depth) 4 e))
+      (λ e. none-fitted true 4 (λ t z. absurd (omega (arith, z))))
 
-  pub work-fitted : (o : Operation) → isListed o ≡ true → Fitted (workOf s m o c memory)
-  unfolding workOf isListed
+  -- kinds that only go on
+  quiet-fitted : Fitted false (quiet (c .w))
+  quiet-fitted = none-fitted false 0 (λ z. never z)
+
+  pub work-fitted : (o : Operation) → isListed o ≡ true → Fitted (begins (controlOf o)) (workOf s m o c memory)
+  unfolding workOf isListed controlOf
   work-fitted (MacOperation q) ok = mac-fitted q
-  work-fitted (AddAccumulators t) ok = record { long = refl; place = tt; words = λ h k. (h, plain-word 0 (lit< tt)) }
-  work-fitted (Subtract t) ok = record { long = refl; place = tt; words = λ h k. (h, plain-word 0 (lit< tt)) }
-  work-fitted (Negate t) ok = record { long = refl; place = tt; words = λ h k. (h, plain-word 0 (lit< tt)) }
+  work-fitted (AddAccumulators t) ok = results-fitted t _
+  work-fitted (Subtract t) ok = results-fitted t _
+  work-fitted (Negate t) ok = results-fitted t _
   work-fitted (Shift t r) ok = shift-fitted t (signedOf 16 (register (c .w) r))
   work-fitted (Lac t b2 o) ok = load-fitted t (pos 0) b2 o
   work-fitted (Add t b2 o) ok = load-fitted t (accumulatorOf c t) b2 o
@@ -194,16 +219,22 @@ module _ (s : Settings) (m : Mode) (c : Core) (memory : List ℕ) where
   work-fitted (SacR t b2 o) ok = store-fitted b2 o _ ok (λ h. scaled-word _ _)
   work-fitted (Literal r v) ok =
       let (register, word) = both (isRegister r) (isWord v) ok in
-      record { long = refl; place = ltb-true r 14 register; words = λ h k. (h, plain-word v (ltb-true v 65536 word)) }
+      record {
+        long = refl;
+        leaves = λ z. refl;
+        place = ltb-true r 14 register;
+        words = λ h k. (h, plain-word v (ltb-true v 65536 word));
+        slot = λ z. never z;
+      }
   work-fitted (Load r p post) ok = move-fitted r p post (both (isRegister r) (isRegister p) ok .0)
   work-fitted (Store r p post) ok = store-fitted 0 (Pointed p post) _ (both (isRegister r) (isRegister p) ok .1) (λ h. plain-word _ (h r))
-  work-fitted (Repeat n) ok = none-fitted 0
-  work-fitted (RepeatRegister r) ok = none-fitted 0
+  work-fitted (Repeat n) ok = quiet-fitted
+  work-fitted (RepeatRegister r) ok = quiet-fitted
   work-fitted (Do n last) ok = loop-fitted
   work-fitted (DoRegister r last) ok = loop-fitted
-  work-fitted EndEarly ok = none-fitted 0
-  work-fitted (SetMode word) ok = none-fitted 0
-  work-fitted ClearSaturation ok = none-fitted 0
+  work-fitted EndEarly ok = quiet-fitted
+  work-fitted (SetMode word) ok = quiet-fitted
+  work-fitted ClearSaturation ok = quiet-fitted
 
 -- past a program's end stands end early, which is listed
 pub listed-at : (p : List Operation) → ((i : ℕ) → i < length p → isListed (operationAt p i) ≡ true) → (i : ℕ) → isListed (operationAt p i) ≡ true

@@ -43,7 +43,7 @@ use Rattle.machine.specs.declared.control.Control.{Control}
 use Rattle.machine.specs.declared.control.Control.the-variants.{None as Onward, Repeat as Repeating, RepeatRegister as RepeatingRegister, Do as Looping}
 use Rattle.machine.specs.declared.control.Control.the-variants.{DoRegister as LoopingRegister, EndEarly as EndingEarly, SetMode as SettingMode}
 use Rattle.machine.specs.declared.control.Control.the-variants.{ClearSaturation as Clearing}
-use Rattle.machine.proofs.Works.{slot-free, settled-pc, settled-loops}
+use Rattle.machine.proofs.Works.{settled-pc, settled-loops}
 use Rattle.machine.proofs.Order.{withSums}
 use Rattle.machine.proofs.Places.{work-fitted}
 use Rattle.state.specs.Typed.{AreWords, Typed}
@@ -303,7 +303,7 @@ module _ (p : List Operation) (placed : isPlaced p ≡ true) where
         words = put-register place word (work .w) (value m) words;
       })
       l (rw (role-is p (s .core .pc)) (operation-suits o ok))
-      (slot-free settings m (s .core) memory o (eqb-true (work .effect .trap) 0 e)))
+      (λ b. fitted .slot b (eqb-true (work .effect .trap) 0 e)))
       (λ e. h)
 
 -- ---- the restart keeps it

@@ -78,12 +78,12 @@ append-words (x ∷ l) m h k (suc i) = append-words l m (λ j. h (suc j)) k i
 -- a pointer's change is to a word
 abbrev ToWord : Change → Type 0
 ToWord NoChange = Unit {0}
-ToWord (To r a) = IsWord a
+ToWord (To r a) = IsWord (a .0)
 
 pub changed-words : (change : Change) (w : List ℕ) → ToWord change → AreWords w → AreWords (changed change w)
 unfolding changed
 changed-words NoChange w c h = h
-changed-words (To r a) w c h = set-words w r a c h
+changed-words (To r a) w c h = set-words w r (a .0) c h
 
 moved-word : (circle : Circular) (r a : ℕ) (step : ℤ) → IsWord (movedOf circle r a step)
 unfolding movedOf

@@ -22,7 +22,8 @@ use Rattle.engine.specs.Ledger.{Ledger, exactRun, ledgerRun}
 use Rattle.engine.specs.Exact.{holdsClear, FlagsClear, NeverLeft, ExactSums}
 use Rattle.engine.proofs.Agree.{cleared, clear, SetIn, FlaggedIn, either, flagged-clear, Ends, Agree, run-stays, run-agrees}
 use Rattle.engine.proofs.Sums.{exact-sums}
-use Rattle.engine.proofs.Split.{isSpent, later, engine-split}
+use Rattle.engine.proofs.Runs.{isSpent, later}
+use Rattle.engine.proofs.Split.{engine-split}
 use Rattle.state.specs.Typed.{AreWords, Typed}
 use Rattle.service.specs.Service.{Bag, onward, engineOf, engineBefore, firstBefore, Served, engineServed, engineService, engineAfter, ledgerBefore, ledgerServed, ledgerService}
 use Rattle.service.specs.Exact.{Sound, Every, ExactService, Staying}
@@ -158,7 +159,7 @@ module _ (p : List Operation) (settings : Settings) (none : holdsClear p ≡ fal
           → ExactService p settings (clear y) (u ∷ us) (v ∷ vs stop)
       one-bag (ended e) is agree exact on =
           let never : NeverLeft v = λ l. false≢true (ap isLeft (sym is ∙ l)) in
-          let same : u .result .machine ≡ clear (v .machine) = ap (λ (r : Result Engine). r .machine) agree in
+          let same : u .result .machine ≡ clear (v .machine) = agree .machines in
           let rest : ExactService p settings (u .result .machine) us (vs (ended e)) =
           subst (λ (x : Engine). ExactService p settings x (engineService p settings x bags) (vs (ended e))) (sym same) (on (v .machine) same) in
           record {

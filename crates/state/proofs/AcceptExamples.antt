@@ -1,4 +1,4 @@
--- Refusals 6 and 7, reset and SR, each value worked out by hand from document 01. Assumes nothing.
+-- Refusals 6 and 7, an accumulator written, reset, restart and SR, each value worked out by hand from document 01. Assumes nothing.
 use Prim.Native.Nat.{ℕ, _+_, _-_, _^_}
 use mathlib.Core.Path.{_≡_, refl}
 use mathlib.Core.Bool.{Bool, true, false}
@@ -7,6 +7,7 @@ use lib.IntN.{ℤ, pos}
 use lib.ListN.{set, replicate}
 use Rattle.integers.specs.Range.{minus, lowest, highest, outside}
 use Rattle.accumulator.specs.Mode.{isGoodMode}
+use Rattle.accumulator.specs.declared.mode.Target.the-variants.{A, B}
 use Rattle.accumulator.specs.Limit.{isAccumulator}
 use Rattle.accumulator.specs.Status.{statusOf}
 use Rattle.address.specs.Word.{wordOf}
@@ -15,7 +16,7 @@ use Rattle.address.specs.Reversal.{widthUpTo, widthOf, isPower}
 use Rattle.operations.specs.declared.operation.Operation.{Operation}
 use Rattle.operations.specs.declared.operation.Operation.the-variants.{Literal, Repeat, RepeatRegister, Do, DoRegister}
 use Rattle.state.specs.Settings.{isTrapWord, isParted, isBufferIn, isCircularIn, isReversed, areSettings, settingsRefusal}
-use Rattle.state.specs.State.{resetState, stateStatus}
+use Rattle.state.specs.State.{withWritten, resetState, restartedState, stateStatus}
 use Rattle.state.specs.Accept.{areLoops, isRepeatLeft, isState, stateRefusal}
 use Rattle.state.specs.declared.settings.Circular.{Circular}
 use Rattle.state.specs.declared.settings.Settings.{Settings}
@@ -317,7 +318,17 @@ repeat-in-loop :
 unfolding seven
 repeat-in-loop = (refl, refl)
 
--- ---- reset and SR
+-- ---- an accumulator written
+
+-- A 5 and B -6, both with O: A or B becomes 1 without O and with S, and the other stays as it was
+one-written :
+    (withWritten (made (pos 5) (minus 6) 0 no-loop 0 0x20 true true false false) A (record { value = pos 1; overflow = false; saturation = true })
+    ≡ made (pos 1) (minus 6) 0 no-loop 0 0x20 false true true false)
+    × (withWritten (made (pos 5) (minus 6) 0 no-loop 0 0x20 true true false false) B (record { value = pos 1; overflow = false; saturation = true })
+    ≡ made (pos 5) (pos 1) 0 no-loop 0 0x20 true false false true)
+one-written = (refl, refl)
+
+-- ---- reset, restart and SR
 
 -- after reset all is zero except that the mode word is 0020 hex; it is accepted, and its SR is 0
 reset :
@@ -331,6 +342,13 @@ reset :
     × (stateStatus resetState ≡ 0)
 unfolding seven resetState stateStatus statusOf
 reset = (refl, refl, refl)
+
+-- a restart of a state in a loop, with repeat left 2: pc 0, no loop, repeat left 0; A, B, the mode word and the flags stay
+restart :
+    restartedState (made (pos 5) (minus 6) 3 (one 1) 2 0x10f3 true false true false)
+    ≡ made (pos 5) (minus 6) 0 no-loop 0 0x10f3 true false true false
+unfolding restartedState
+restart = refl
 
 -- SR by the flags OA, OB, SA, SB
 abbrev status : Bool → Bool → Bool → Bool → ℕ

@@ -1,12 +1,11 @@
 // Cases from standard input, in each of which one step is made, answered by a line on standard output.
-use engine::ending::Ending;
 use libc::STDIN_FILENO;
-use machine::single::SingleStep;
 use machine::single::single_step;
 use stream::header;
 use stream::line;
+use stream::line::LINE;
 use stream::memory::fill;
-use stream::number::print_text;
+use stream::print::print_start;
 ghost use Prim.Native.Nat.{_*_, _≤_};
 ghost use lib.ListN.{length};
 
@@ -36,19 +35,6 @@ fn case(file: &mut [u8], bytes: &mut [u8], memory: &mut [u16]) {
     );
 }
 
-// How the step ended: refused, done, trapped or made.
-fn print_ending(made: SingleStep) {
-    if made.refusal != 0 {
-        line::print_ending(Ending::Refused(made.refusal));
-    } else if made.trap != 0 {
-        line::print_ending(Ending::Trap(made.trap));
-    } else if made.counted {
-        print_text(b"step");
-    } else {
-        line::print_ending(Ending::Done);
-    }
-}
-
 // The step of a case, and its line.
 fn answer(head: [u8; 320], file: &[u8], bytes: &[u8], memory: &mut [u16])
     requires { ⌜ 2 * length (now memory) ≤ length (now bytes) ⌝ }
@@ -57,9 +43,9 @@ fn answer(head: [u8; 320], file: &[u8], bytes: &[u8], memory: &mut [u16])
     let settings = header::settings(head);
     let state = header::state(head);
     let made = single_step(file, settings, state, memory);
-    print_ending(made);
-    let after = made.state;
-    line::print_rest(made.counted as u64, after, memory);
+    let mut text = [0u8; LINE];
+    let n = line::step_line(&mut text, made, memory);
+    print_start(text, n);
 }
 
 // So many cases.
@@ -78,7 +64,7 @@ fn main() {
     let mut bytes = [0u8; 65536];
     let mut memory = [0u16; 32768];
     cases(
-        header::word(head[0], head[1]) as usize,
+        header::two_bytes(head[0], head[1]) as usize,
         &mut file,
         &mut bytes,
         &mut memory,

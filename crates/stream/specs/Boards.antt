@@ -6,11 +6,11 @@ use lib.Dec.{eqb, ltb}
 use lib.ListN.{getD}
 use Rattle.combine.specs.Boards.{noBoard}
 use Rattle.combine.specs.declared.board.Board.{Board}
-use Rattle.stream.specs.Header.{numberAt}
+use Rattle.stream.specs.Header.{eightBytesAt}
 
 -- board i: A (8 bytes, two's complement) and SA (1 byte, 0 or not 0)
 abbrev pub boardIn : List ℕ → ℕ → Board
-boardIn bytes i = record { a = numberAt bytes (9 * i); sa = not (eqb (getD bytes (9 * i + 8) 0) 0) }
+boardIn bytes i = record { a = eightBytesAt bytes (9 * i); sa = not (eqb (getD bytes (9 * i + 8) 0) 0) }
 
 -- entry i of the call: board i, or of no run from the count on
 abbrev pub entryIn : List ℕ → ℕ → ℕ → Board

@@ -13,67 +13,67 @@ use Rattle.state.specs.declared.state.State.{State}
 -- ---- numbers
 
 -- 16 bits
-abbrev pub wordOf : ℕ → ℕ → ℕ
-wordOf low high = low + 256 * high
+abbrev pub twoBytesOf : ℕ → ℕ → ℕ
+twoBytesOf low high = low + 256 * high
 
 -- the 2 bytes from `at` on
-abbrev pub wordAt : List ℕ → ℕ → ℕ
-wordAt head at = wordOf (getD head at 0) (getD head (at + 1) 0)
+abbrev pub twoBytesAt : List ℕ → ℕ → ℕ
+twoBytesAt head at = twoBytesOf (getD head at 0) (getD head (at + 1) 0)
 
 -- 32 bits
-abbrev pub longOf : ℕ → ℕ → ℕ
-longOf low high = low + 65536 * high
+abbrev pub fourBytesOf : ℕ → ℕ → ℕ
+fourBytesOf low high = low + 65536 * high
 
 -- the 4 bytes from `at` on
-abbrev pub longAt : List ℕ → ℕ → ℕ
-longAt head at = longOf (wordAt head at) (wordAt head (at + 2))
+abbrev pub fourBytesAt : List ℕ → ℕ → ℕ
+fourBytesAt head at = fourBytesOf (twoBytesAt head at) (twoBytesAt head (at + 2))
 
 -- 64 bits, two's complement: the high half is signed
-abbrev pub numberOf : ℕ → ℕ → ℤ
-numberOf low high = signedOf 32 high *ℤ pos (2 ^ 32) +ℤ pos low
+abbrev pub eightBytesOf : ℕ → ℕ → ℤ
+eightBytesOf low high = signedOf 32 high *ℤ pos (2 ^ 32) +ℤ pos low
 
 -- the 8 bytes from `at` on
-abbrev pub numberAt : List ℕ → ℕ → ℤ
-numberAt head at = numberOf (longAt head at) (longAt head (at + 4))
+abbrev pub eightBytesAt : List ℕ → ℕ → ℤ
+eightBytesAt head at = eightBytesOf (fourBytesAt head at) (fourBytesAt head (at + 4))
 
 -- ---- sizes
 
 -- at 0, 4 bytes: F, the length of the program file
 abbrev pub fileSize : List ℕ → ℕ
-fileSize head = longAt head 0
+fileSize head = fourBytesAt head 0
 
 -- at 4, 4 bytes: M, the words of memory
 abbrev pub memoryWords : List ℕ → ℕ
-memoryWords head = longAt head 4
+memoryWords head = fourBytesAt head 4
 
 -- at 8, 4 bytes: the budget; of a load and of a write R, the bytes of lent output
 abbrev pub budgetIn : List ℕ → ℕ
-budgetIn head = longAt head 8
+budgetIn head = fourBytesAt head 8
 
 -- at 260, 4 bytes: G, the length of a second file or of a recording
 abbrev pub secondSize : List ℕ → ℕ
-secondSize head = longAt head 260
+secondSize head = fourBytesAt head 260
 
 -- at 268, 4 bytes: R, the bytes of lent output
 abbrev pub outputRoom : List ℕ → ℕ
-outputRoom head = longAt head 268
+outputRoom head = fourBytesAt head 268
 
 -- ---- settings
 
 -- a register, a zero byte, S and E
 abbrev pub circularAt : List ℕ → ℕ → Circular
 circularAt head at =
-    record { register = getD head at 0; buffer = record { start = record { 0 = wordAt head (at + 2) }; last = record { 0 = wordAt head (at + 4) } } }
+    record { register = getD head at 0; buffer = record { start = record { 0 = twoBytesAt head (at + 2) }; last = record { 0 = twoBytesAt head (at + 4) } } }
 
 -- 12 words of the X part, 14 trap word, 16 X's circular register, 22 Y's, 28 the bit-reversed register, 30 its N
 unfoldable pub settingsIn : List ℕ → Settings
 settingsIn head =
     record {
-      xwords = wordAt head 12;
-      traps = wordAt head 14;
+      xwords = twoBytesAt head 12;
+      traps = twoBytesAt head 14;
       x = circularAt head 16;
       y = circularAt head 22;
-      reversed = record { register = getD head 28 0; words = wordAt head 30 };
+      reversed = record { register = getD head 28 0; words = twoBytesAt head 30 };
     }
 
 -- ---- state
@@ -81,28 +81,28 @@ settingsIn head =
 -- 32, 28 bytes: W0 .. W13
 unfoldable pub registersIn : List ℕ → List ℕ
 registersIn head =
-    wordAt head 32
-    ∷ wordAt head 34
-    ∷ wordAt head 36
-    ∷ wordAt head 38
-    ∷ wordAt head 40
-    ∷ wordAt head 42
-    ∷ wordAt head 44
-    ∷ wordAt head 46
-    ∷ wordAt head 48
-    ∷ wordAt head 50
-    ∷ wordAt head 52
-    ∷ wordAt head 54
-    ∷ wordAt head 56
-    ∷ wordAt head 58
+    twoBytesAt head 32
+    ∷ twoBytesAt head 34
+    ∷ twoBytesAt head 36
+    ∷ twoBytesAt head 38
+    ∷ twoBytesAt head 40
+    ∷ twoBytesAt head 42
+    ∷ twoBytesAt head 44
+    ∷ twoBytesAt head 46
+    ∷ twoBytesAt head 48
+    ∷ twoBytesAt head 50
+    ∷ twoBytesAt head 52
+    ∷ twoBytesAt head 54
+    ∷ twoBytesAt head 56
+    ∷ twoBytesAt head 58
     ∷ []
 
 -- 78 number of active loops, 80 the DO numbers of the four slots, 88 their passes left
 unfoldable pub loopsIn : List ℕ → Loops
 loopsIn head =
     record {
-      starts = wordAt head 80 ∷ wordAt head 82 ∷ wordAt head 84 ∷ wordAt head 86 ∷ [];
-      passes = longAt head 88 ∷ longAt head 92 ∷ longAt head 96 ∷ longAt head 100 ∷ [];
+      starts = twoBytesAt head 80 ∷ twoBytesAt head 82 ∷ twoBytesAt head 84 ∷ twoBytesAt head 86 ∷ [];
+      passes = fourBytesAt head 88 ∷ fourBytesAt head 92 ∷ fourBytesAt head 96 ∷ fourBytesAt head 100 ∷ [];
       depth = getD head 78 0;
     }
 
@@ -117,12 +117,12 @@ stateIn head =
       core =
           record {
             w = registersIn head;
-            a = numberAt head 60;
-            b = numberAt head 68;
-            pc = wordAt head 76;
+            a = eightBytesAt head 60;
+            b = eightBytesAt head 68;
+            pc = twoBytesAt head 76;
             loops = loopsIn head;
-            repeat = longAt head 104;
-            mode = wordAt head 108;
+            repeat = fourBytesAt head 104;
+            mode = twoBytesAt head 108;
             oa = flagIn head 0;
             ob = flagIn head 1;
           };

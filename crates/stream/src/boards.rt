@@ -1,22 +1,22 @@
 // The boards of a case that combines stretches, 9 bytes each: A, then SA.
-use crate::header::long;
-use crate::header::number;
-use crate::header::word;
+use crate::header::eight_bytes;
+use crate::header::four_bytes;
+use crate::header::two_bytes;
 use combine::board::Board;
 ghost use mathlib.Core.Path.{_≡_};
 ghost use Prim.Native.Nat.{_+_, _*_, _<_, _≤_};
 ghost use lib.ListN.{length};
-ghost use Rattle.stream.specs.Header.{longAt};
+ghost use Rattle.stream.specs.Header.{fourBytesAt};
 ghost use Rattle.stream.specs.Boards.{boardIn, entryIn, boardsIn};
 
 // The 32 bits from `at` on.
-fn long_at(bytes: &[u8], at: usize) -> u32
+fn four_bytes_at(bytes: &[u8], at: usize) -> u32
     requires { ⌜ at + 3 < length (now bytes) ⌝ }
-    ensures { λ r. ⌜ r ≡ longAt (now (bytes .entry)) at ⌝ }
+    ensures { λ r. ⌜ r ≡ fourBytesAt (now (bytes .entry)) at ⌝ }
 {
-    let low = word(bytes[at], bytes[at + 1]);
-    let high = word(bytes[at + 2], bytes[at + 3]);
-    long(low, high)
+    let low = two_bytes(bytes[at], bytes[at + 1]);
+    let high = two_bytes(bytes[at + 2], bytes[at + 3]);
+    four_bytes(low, high)
 }
 
 // Board i.
@@ -25,10 +25,10 @@ fn board(bytes: &[u8], i: usize) -> Board
     ensures { λ r. ⌜ r ≡ boardIn (now (bytes .entry)) i ⌝ }
 {
     let at = 9 * i;
-    let low = long_at(bytes, at);
-    let high = long_at(bytes, at + 4);
+    let low = four_bytes_at(bytes, at);
+    let high = four_bytes_at(bytes, at + 4);
     Board {
-        a: number(low, high),
+        a: eight_bytes(low, high),
         sa: bytes[at + 8] != 0,
     }
 }

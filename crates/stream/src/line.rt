@@ -1,38 +1,45 @@
-// The line of a case: its fields, parted by one space.
-use crate::number::print_number;
-use crate::number::print_signed;
-use crate::number::print_text;
-use crate::number::print_word;
+// The line of a case, put at the start of a lent buffer.
+use crate::buffer::append;
+use crate::check::check_bytes;
+use crate::check::check_longs;
+use crate::check::check_words;
+use crate::field::append_flag_field;
+use crate::field::append_long_field;
+use crate::field::append_number_field;
+use crate::field::append_number_fields;
+use crate::field::append_signed_field;
+use crate::field::append_word_field;
+use crate::state_fields::append_state;
+use crate::state_fields::append_sums;
 use accumulator::limit::Accumulator;
 use combine::call::Combined;
 use engine::ending::Ending;
 use engine::outcome::Outcome;
+use machine::single::SingleStep;
 use program::answer::Answer;
-use state::state::Core;
-use state::state::Loops;
 use state::state::State;
-ghost use Prim.Native.Nat.{_≤_};
+ghost use mathlib.Core.Path.{_≡_};
+ghost use Prim.Native.Nat.{_+_, _≤_};
+ghost use lib.ListN.{take};
+ghost use Rattle.stream.specs.Buffer.{Appended, BeginsWith};
+ghost use Rattle.stream.specs.Text.{beforeZero, checkOf};
+ghost use Rattle.stream.specs.Line.{lineEnd, endingText, runFields, runLine, allRegisters, longRunLine, tallySums, ofNoRefusal, tallyLine};
+ghost use Rattle.stream.specs.Line.{stepText, stepLine, verbText, unlessRefused, filledLine, combinedFields, combinedLine, servedText, serviceText, bagFields};
 
-// A space and a number.
-pub fn print_field(n: u64) {
-    print_text(b" ");
-    print_number(n);
-}
+// The bytes of a buffer. The longest line is that of a run in the long form, with 20 digits for each number 619 bytes: 9 of the ending, 21 of the steps, 376
+// of the state and the memory's check, 2 of the set, 21 of the registers' check, 189 of the task counts, 1 of the line's end.
+pub const LINE: usize = 640;
 
-// A space and a signed number.
-pub fn print_signed_field(v: i64) {
-    print_text(b" ");
-    print_signed(v);
-}
-
-// A space and a word in hexadecimal.
-pub fn print_word_field(x: u16) {
-    print_text(b" ");
-    print_word(x);
+// What a call that fills a lent slice did.
+pub enum Verb {
+    Loaded,
+    Wrote,
+    Joined,
 }
 
 // The length of a name that zeros fill up.
-fn length(name: [u8; 9]) -> usize
+fn name_length(name: [u8; 9]) -> usize
+    ensures { λ r. ⌜ take r name ≡ beforeZero name ⌝ }
     ensures { λ r. ⌜ r ≤ 9 ⌝ }
 {
     let mut n = 0;
@@ -46,213 +53,223 @@ fn length(name: [u8; 9]) -> usize
 }
 
 // An ending's name.
-pub fn print_ending(ending: Ending) {
+fn append_ending(out: &mut [u8; LINE], at: usize, ending: Ending) -> usize
+    requires { ⌜ at + 9 ≤ 640 ⌝ }
+    ensures { λ r. ⌜ Appended at 9 (endingText ending) (now (out .entry)) r (now (out .exit)) ⌝ }
+{
     let name = ending.name();
-    print_text(&name[0..length(name)]);
+    let size = name_length(name);
+    append(out, at, &name[0..size])
 }
 
-// The check number with one number more: 31 h + x modulo 2^32.
-fn next_check(h: u32, x: u32) -> u32 {
-    ((31 * h as u64 + x as u64) % 4294967296) as u32
+// The end of the line.
+fn append_end(out: &mut [u8; LINE], at: usize) -> usize
+    requires { ⌜ at + 1 ≤ 640 ⌝ }
+    ensures { λ r. ⌜ Appended at 1 lineEnd (now (out .entry)) r (now (out .exit)) ⌝ }
+{
+    append(out, at, b"\n")
 }
 
-// A word as a number.
-fn long(x: u16) -> u32 {
-    x as u32
-}
-
-// A byte as a number.
-fn long_byte(x: u8) -> u32 {
-    x as u32
-}
-
-// The check number of all words.
-fn check(memory: &[u16]) -> u32 {
-    let mut h = 0;
-    let mut i = 0;
-    while i < memory.len() {
-        h = next_check(h, long(memory[i]));
-        i += 1;
-    }
-    h
-}
-
-// The check number of all bytes.
-fn check_bytes(s: &[u8]) -> u32 {
-    let mut h = 0;
-    let mut i = 0;
-    while i < s.len() {
-        h = next_check(h, long_byte(s[i]));
-        i += 1;
-    }
-    h
-}
-
-// The check number of all numbers.
-fn check_longs(s: &[u32]) -> u32 {
-    let mut h = 0;
-    let mut i = 0;
-    while i < s.len() {
-        h = next_check(h, s[i]);
-        i += 1;
-    }
-    h
-}
-
-// A space and the check number of bytes.
-pub fn print_bytes_check(s: &[u8]) {
-    print_field(check_bytes(s) as u64);
-}
-
-// A space and the check number of numbers.
-pub fn print_longs_check(s: &[u32]) {
-    print_field(check_longs(s) as u64);
-}
-
-// A slot: DO's number and passes left.
-fn print_slot(start: usize, left: u32) {
-    print_field(start as u64);
-    print_text(b":");
-    print_number(left as u64);
-}
-
-// The four slots.
-fn print_slots(loops: Loops) {
-    let starts = loops.starts;
-    let passes = loops.passes;
-    let mut i = 0;
-    while i < 4 {
-        print_slot(starts[i], passes[i]);
-        i += 1;
-    }
-}
-
-// The registers, each in hexadecimal.
-fn print_registers(w: [u16; 14]) {
-    let mut i = 0;
-    while i < 14 {
-        print_word_field(w[i]);
-        i += 1;
-    }
-}
-
-// A, B, SR, pc, repeat left, mode word, loops, registers.
-fn print_core(core: Core, status: u16) {
-    let loops = core.loops;
-    let w = core.w;
-    print_signed_field(core.a);
-    print_signed_field(core.b);
-    print_word_field(status);
-    print_field(core.pc as u64);
-    print_field(core.repeat as u64);
-    print_word_field(core.mode);
-    print_field(loops.depth as u64);
-    print_slots(loops);
-    print_registers(w);
-}
-
-// The state, and the check number of memory.
-pub fn print_state(state: State, memory: &[u16]) {
-    let core = state.core;
-    print_core(core, state.status());
-    print_field(check(memory) as u64);
-}
-
-// The rest of a step's line after its ending: steps, the state, the check number of memory.
-pub fn print_rest(steps: u64, state: State, memory: &[u16]) {
-    print_field(steps);
-    print_state(state, memory);
-    print_text(b"\n");
-}
-
-// All 70 registers, set 0 first; sets 1 to 4 are zeros.
-fn all_registers(w: [u16; 14]) -> [u16; 70] {
-    let mut all = [0u16; 70];
-    let mut i = 0;
-    while i < 14 {
-        all[i] = w[i];
-        i += 1;
-    }
-    all
-}
-
-// The number of the set in use, which is 0, and the check number of all registers.
-fn print_sets(core: Core) {
-    let w = core.w;
-    let all = all_registers(w);
-    print_field(0);
-    print_field(check(&all) as u64);
-}
-
-// A space and a count of steps.
-fn print_count(n: u32) {
-    print_field(n as u64);
-}
-
-// The nine task counts: those of the eight tasks, then that of operations in none.
-fn print_counts(counts: [u32; 9]) {
-    let mut i = 0;
-    while i < 9 {
-        print_count(counts[i]);
-        i += 1;
-    }
-}
-
-// The fields of a run: its ending, steps, the state, the check number of memory.
-fn print_outcome(outcome: Outcome, memory: &[u16]) {
+// The fields of a run: its ending, steps, the state, the memory's check.
+fn append_run(out: &mut [u8; LINE], outcome: Outcome, memory: &[u16]) -> usize
+    ensures { λ r. ⌜ Appended 0 406 (runFields outcome (now (memory .entry))) (now (out .entry)) r (now (out .exit)) ⌝ }
+{
     let ending = outcome.ending;
     let state = outcome.state;
-    print_ending(ending);
-    print_count(outcome.steps);
-    print_state(state, memory);
+    let name = append_ending(out, 0, ending);
+    let steps = append_long_field(out, name, outcome.steps);
+    append_state(out, steps, state, memory)
 }
 
 // The line of a run.
-pub fn print_run(outcome: Outcome, memory: &[u16]) {
-    print_outcome(outcome, memory);
-    print_text(b"\n");
+pub fn run_line(out: &mut [u8; LINE], outcome: Outcome, memory: &[u16]) -> usize
+    ensures { λ r. ⌜ BeginsWith (runLine outcome (now (memory .entry))) (now (out .entry)) r (now (out .exit)) ⌝ }
+{
+    let fields = append_run(out, outcome, memory);
+    append_end(out, fields)
 }
 
-// The line of a run in the long form: the fields of a run, then sets and task counts. Every step is of an operation in no task.
-pub fn print_long_run(outcome: Outcome, memory: &[u16]) {
+// The check of all 70 registers, set 0 first; sets 1 to 4 are zeros.
+fn check_registers(w: [u16; 14]) -> u32
+    ensures { λ r. ⌜ r ≡ checkOf (allRegisters w) ⌝ }
+{
+    let zeros = [0u16; 56];
+    let first = check_words(0, &w);
+    check_words(first, &zeros)
+}
+
+// The line of a run in the long form: the fields of a run, the set in use, the check of all registers, the task counts. Every step is of an operation in no
+// task.
+pub fn long_run_line(out: &mut [u8; LINE], outcome: Outcome, memory: &[u16]) -> usize
+    ensures { λ r. ⌜ BeginsWith (longRunLine outcome (now (memory .entry))) (now (out .entry)) r (now (out .exit)) ⌝ }
+{
     let state = outcome.state;
     let core = state.core;
-    print_outcome(outcome, memory);
-    print_sets(core);
-    print_counts([0, 0, 0, 0, 0, 0, 0, 0, outcome.steps]);
-    print_text(b"\n");
+    let w = core.w;
+    let steps = outcome.steps;
+    let counts = [0, 0, 0, 0, 0, 0, 0, 0, steps];
+    let check = check_registers(w);
+    let fields = append_run(out, outcome, memory);
+    let set = append(out, fields, b" 0");
+    let registers = append_long_field(out, set, check);
+    let tasks = append_number_fields(out, registers, &counts);
+    append_end(out, tasks)
 }
 
-// The line of a load, a write or a join: the verb or the refusal, the bytes written, the check number of the lent slice.
-pub fn print_filled(verb: &[u8], answer: Answer, slice: &[u8]) {
-    if answer.number() == 0 {
-        print_text(verb);
-    } else {
-        print_ending(Ending::Refused(answer.number()));
+// Steps, A, B and SR.
+fn append_tally_sums(out: &mut [u8; LINE], at: usize, outcome: Outcome) -> usize
+    requires { ⌜ at + 70 ≤ 640 ⌝ }
+    ensures { λ r. ⌜ Appended at 70 (tallySums outcome) (now (out .entry)) r (now (out .exit)) ⌝ }
+{
+    let state = outcome.state;
+    let core = state.core;
+    let steps = append_long_field(out, at, outcome.steps);
+    append_sums(out, steps, core, state.status())
+}
+
+// Steps, A, B and SR, unless the ending is a refusal.
+fn append_tally(out: &mut [u8; LINE], at: usize, outcome: Outcome) -> usize
+    requires { ⌜ at + 70 ≤ 640 ⌝ }
+    ensures { λ r. ⌜ Appended at 70 (ofNoRefusal (outcome .ending) (tallySums outcome)) (now (out .entry)) r (now (out .exit)) ⌝ }
+{
+    let ending = outcome.ending;
+    match ending {
+        Ending::Done => append_tally_sums(out, at, outcome),
+        Ending::Spent => append_tally_sums(out, at, outcome),
+        Ending::Trap(_) => append_tally_sums(out, at, outcome),
+        Ending::Refused(_) => append(out, at, b""),
     }
-    print_field(answer.bytes() as u64);
-    print_bytes_check(slice);
-    print_text(b"\n");
 }
 
-// A space and a flag, 0 or 1.
-fn print_flag_field(set: bool) {
-    print_field(set as u64);
+// The line of `tally`: the ending, alone where it is a refusal.
+pub fn tally_line(out: &mut [u8; LINE], outcome: Outcome) -> usize
+    ensures { λ r. ⌜ BeginsWith (tallyLine outcome) (now (out .entry)) r (now (out .exit)) ⌝ }
+{
+    let ending = outcome.ending;
+    let name = append_ending(out, 0, ending);
+    let sums = append_tally(out, name, outcome);
+    append_end(out, sums)
 }
 
-// The fields of a combined sum: A, OA, SA.
-fn print_sum(sum: Accumulator) {
-    print_text(b"combined");
-    print_signed_field(sum.value);
-    print_flag_field(sum.overflow);
-    print_flag_field(sum.saturation);
+// How a step ended: refused, done, trapped or made.
+fn append_step(out: &mut [u8; LINE], made: SingleStep) -> usize
+    ensures { λ r. ⌜ Appended 0 9 (stepText made) (now (out .entry)) r (now (out .exit)) ⌝ }
+{
+    if made.refusal != 0 {
+        append_ending(out, 0, Ending::Refused(made.refusal))
+    } else if made.trap != 0 {
+        append_ending(out, 0, Ending::Trap(made.trap))
+    } else if made.counted {
+        append(out, 0, b"step")
+    } else {
+        append_ending(out, 0, Ending::Done)
+    }
+}
+
+// The line of a single step.
+pub fn step_line(out: &mut [u8; LINE], made: SingleStep, memory: &[u16]) -> usize
+    ensures { λ r. ⌜ BeginsWith (stepLine made (now (memory .entry))) (now (out .entry)) r (now (out .exit)) ⌝ }
+{
+    let state = made.state;
+    let ending = append_step(out, made);
+    let steps = append_flag_field(out, ending, made.counted);
+    let fields = append_state(out, steps, state, memory);
+    append_end(out, fields)
+}
+
+// The verb.
+fn append_verb(out: &mut [u8; LINE], verb: Verb) -> usize
+    ensures { λ r. ⌜ Appended 0 9 (verbText verb) (now (out .entry)) r (now (out .exit)) ⌝ }
+{
+    match verb {
+        Verb::Loaded => append(out, 0, b"loaded"),
+        Verb::Wrote => append(out, 0, b"written"),
+        Verb::Joined => append(out, 0, b"joined"),
+    }
+}
+
+// The verb, or the refusal.
+fn append_answer(out: &mut [u8; LINE], verb: Verb, refusal: u8) -> usize
+    ensures { λ r. ⌜ Appended 0 9 (unlessRefused refusal (verbText verb)) (now (out .entry)) r (now (out .exit)) ⌝ }
+{
+    if refusal == 0 {
+        append_verb(out, verb)
+    } else {
+        append_ending(out, 0, Ending::Refused(refusal))
+    }
+}
+
+// The line of a load, a write or a join: the verb or the refusal, the bytes written, the check of the lent slice.
+pub fn filled_line(out: &mut [u8; LINE], verb: Verb, answer: Answer, slice: &[u8]) -> usize
+    ensures { λ r. ⌜ BeginsWith (filledLine verb answer (now (slice .entry))) (now (out .entry)) r (now (out .exit)) ⌝ }
+{
+    let check = check_bytes(0, slice);
+    let name = append_answer(out, verb, answer.number());
+    let bytes = append_number_field(out, name, answer.bytes() as u64);
+    let checked = append_long_field(out, bytes, check);
+    append_end(out, checked)
+}
+
+// A combined sum: A, OA, SA.
+fn append_sum(out: &mut [u8; LINE], sum: Accumulator) -> usize
+    ensures { λ r. ⌜ Appended 0 34 (combinedFields sum) (now (out .entry)) r (now (out .exit)) ⌝ }
+{
+    let name = append(out, 0, b"combined");
+    let a = append_signed_field(out, name, sum.value);
+    let oa = append_flag_field(out, a, sum.overflow);
+    append_flag_field(out, oa, sum.saturation)
 }
 
 // The line of combined boards: the sum or the refusal.
-pub fn print_combined(answer: Combined) {
+pub fn combined_line(out: &mut [u8; LINE], answer: Combined) -> usize
+    ensures { λ r. ⌜ BeginsWith (combinedLine answer) (now (out .entry)) r (now (out .exit)) ⌝ }
+{
     match answer {
-        Combined::Sum(sum) => print_sum(sum),
-        Combined::Refused(n) => print_ending(Ending::Refused(n)),
+        Combined::Sum(sum) => {
+            let fields = append_sum(out, sum);
+            append_end(out, fields)
+        }
+        Combined::Refused(n) => {
+            let name = append_ending(out, 0, Ending::Refused(n));
+            append_end(out, name)
+        }
     }
-    print_text(b"\n");
+}
+
+// `served`, or the refusal.
+fn append_served(out: &mut [u8; LINE], refusal: u8) -> usize
+    ensures { λ r. ⌜ Appended 0 9 (unlessRefused refusal servedText) (now (out .entry)) r (now (out .exit)) ⌝ }
+{
+    if refusal == 0 {
+        append(out, 0, b"served")
+    } else {
+        append_ending(out, 0, Ending::Refused(refusal))
+    }
+}
+
+// The line of a service up to its bags: whether it was served, the state, the checks of memory, ending codes and steps.
+pub fn service_text(
+    out: &mut [u8; LINE],
+    refusal: u8,
+    state: State,
+    memory: &[u16],
+    endings: &[u8],
+    steps: &[u32],
+) -> usize
+    ensures { λ r. ⌜ BeginsWith (serviceText refusal state (now (memory .entry)) (now (endings .entry)) (now (steps .entry))) (now (out .entry)) r (now (out .exit)) ⌝ }
+{
+    let codes = check_bytes(0, endings);
+    let counts = check_longs(0, steps);
+    let served = append_served(out, refusal);
+    let fields = append_state(out, served, state, memory);
+    let checked = append_long_field(out, fields, codes);
+    append_long_field(out, checked, counts)
+}
+
+// The fields of a bag: its ending's code and its steps.
+pub fn bag_text(out: &mut [u8; LINE], ending: u8, steps: u32) -> usize
+    ensures { λ r. ⌜ BeginsWith (bagFields ending steps) (now (out .entry)) r (now (out .exit)) ⌝ }
+{
+    let code = append_word_field(out, 0, ending as u16);
+    append_long_field(out, code, steps)
 }

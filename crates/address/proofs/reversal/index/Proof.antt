@@ -7,7 +7,7 @@ use Rattle.address.proofs.reversal.index.Tie as tie
 
 returns : tie.Need-returns
 unfolding indexOf
-returns c = rw (c .mask .ensures, index-mask (c .before .args .b) (c .before .args .a))
+returns c = rw (c .mask .ensures, index-mask (c .before .args .b) (c .before .args .a .0))
 
 pub index-spec : {M : Type 1} → statement M
 index-spec = tie.close (tie.spec (λ c κs. search needs) returns)

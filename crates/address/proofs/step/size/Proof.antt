@@ -10,20 +10,20 @@ use Rattle.address.proofs.step.size.Tie as tie
 
 sub-apart : tie.Need-sub-apart
 sub-apart c =
-    let s : Fits w16 (c .args .s) = search needs in
-    let e : Fits w16 (c .args .e) = search needs in
+    let s : Fits w16 (c .args .start .0) = search needs in
+    let e : Fits w16 (c .args .last .0) = search needs in
     rw (word-plain s, word-plain e) (apart-fits s e)
 
 add-result : tie.Need-add-result
 add-result c =
-    let s : Fits w16 (c .args .s) = search needs in
-    let e : Fits w16 (c .args .e) = search needs in
+    let s : Fits w16 (c .args .start .0) = search needs in
+    let e : Fits w16 (c .args .last .0) = search needs in
     rw (word-plain s, word-plain e, toZ-ofZ (apart-fits s e)) (size-fits s e)
 
 returns : tie.Need-returns
 returns c =
-    let s : Fits w16 (c .args .s) = search needs in
-    let e : Fits w16 (c .args .e) = search needs in
+    let s : Fits w16 (c .args .start .0) = search needs in
+    let e : Fits w16 (c .args .last .0) = search needs in
     rw (word-plain s, word-plain e, toZ-ofZ (apart-fits s e)) (toZ-ofZ (size-fits s e))
 
 pub size-spec : {M : Type 1} → statement M

@@ -12,13 +12,13 @@ use Rattle.address.proofs.step.unreduced.Tie as tie
 add-to : tie.Need-add-to
 add-to c =
     let start = c .before in
-    let at : Fits w16 (start .args .at) = search needs in
+    let at : Fits w16 (start .args .a .0) = search needs in
     rw (word-plain at, gave (c .wide .ensures ∙ toZ-ofZ (start .fits .step)) (c .wide .ok)) (sum-fits at (start .fits .step))
 
 returns : tie.Need-returns
 returns c =
     let start = c .before in
-    let at : Fits w16 (start .args .at) = search needs in
+    let at : Fits w16 (start .args .a .0) = search needs in
     rw (word-plain at, gave (c .wide .ensures ∙ toZ-ofZ (start .fits .step)) (c .wide .ok)) (toZ-ofZ (sum-fits at (start .fits .step)))
 
 pub unreduced-spec : {M : Type 1} → statement M

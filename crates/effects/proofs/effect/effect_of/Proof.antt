@@ -4,7 +4,7 @@ use Prim.Native.Nat.{_-_}
 use Rattle.effects.specs.Effect.{blocked, stores}
 use Rattle.effects.specs.Operations.{workOf}
 use Rattle.operations.specs.Listed.{isListed}
-use Rattle.effects.proofs.Works.{operand-shift}
+use Rattle.effects.proofs.Operands.{operand-shift}
 use borrow.Author.Needs.{needs}
 use Rattle.effects.proofs.effect.effect_of.Statement.{statement}
 use Rattle.effects.proofs.effect.effect_of.Tie as tie

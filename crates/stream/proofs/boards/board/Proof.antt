@@ -8,9 +8,9 @@ use Rattle.stream.proofs.boards.board.Tie as tie
 
 returns : tie.Need-returns
 returns c =
-    let a = c .before .number .result in
+    let a = c .before .eight-bytes .result in
     let back : toZ w64 (ofZ w64 a) ≡ a = search needs in
-    rw (back, c .before .number .ensures, c .before .before .long-at2 .ensures, c .before .before .before .long-at .ensures)
+    rw (back, c .before .eight-bytes .ensures, c .before .before .four-bytes-at2 .ensures, c .before .before .before .four-bytes-at .ensures)
 
 pub board-spec : {M : Type 1} → statement M
 board-spec =

@@ -5,7 +5,7 @@ use Rattle.stream.proofs.header.circular_at.Statement.{statement}
 use Rattle.stream.proofs.header.circular_at.Tie as tie
 
 returns : tie.Need-returns
-returns c = rw (c .word-at2 .ensures, c .before .word-at .ensures)
+returns c = rw (c .two-bytes-at2 .ensures, c .before .two-bytes-at .ensures)
 
 pub circular-at-spec : {M : Type 1} → statement M
 circular-at-spec =

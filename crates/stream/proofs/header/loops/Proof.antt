@@ -8,7 +8,7 @@ use Rattle.stream.proofs.header.loops.Tie as tie
 returns : tie.Need-returns
 unfolding loopsIn
 returns c =
-    rw (c .long-at4 .ensures, c .before .long-at3 .ensures, c .before .before .long-at2 .ensures, c .before .before .before .long-at .ensures, c .before .before .before .before .start4 .ensures, c .before .before .before .before .before .start3 .ensures, c .before .before .before .before .before .before .start2 .ensures, c .before .before .before .before .before .before .before .start .ensures)
+    rw (c .four-bytes-at4 .ensures, c .before .four-bytes-at3 .ensures, c .before .before .four-bytes-at2 .ensures, c .before .before .before .four-bytes-at .ensures, c .before .before .before .before .start4 .ensures, c .before .before .before .before .before .start3 .ensures, c .before .before .before .before .before .before .start2 .ensures, c .before .before .before .before .before .before .before .start .ensures)
 
 pub loops-spec : {M : Type 1} → statement M
 loops-spec =

@@ -8,7 +8,7 @@ use Rattle.stream.proofs.header.registers.Tie as tie
 returns : tie.Need-returns
 unfolding registersIn
 returns c =
-    rw (c .word-at14 .ensures, c .before .word-at13 .ensures, c .before .before .word-at12 .ensures, c .before .before .before .word-at11 .ensures, c .before .before .before .before .word-at10 .ensures, c .before .before .before .before .before .word-at9 .ensures, c .before .before .before .before .before .before .word-at8 .ensures, c .before .before .before .before .before .before .before .word-at7 .ensures, c .before .before .before .before .before .before .before .before .word-at6 .ensures, c .before .before .before .before .before .before .before .before .before .word-at5 .ensures, c .before .before .before .before .before .before .before .before .before .before .word-at4 .ensures, c .before .before .before .before .before .before .before .before .before .before .before .word-at3 .ensures, c .before .before .before .before .before .before .before .before .before .before .before .before .word-at2 .ensures, c .before .before .before .before .before .before .before .before .before .before .before .before .before .word-at .ensures)
+    rw (c .two-bytes-at14 .ensures, c .before .two-bytes-at13 .ensures, c .before .before .two-bytes-at12 .ensures, c .before .before .before .two-bytes-at11 .ensures, c .before .before .before .before .two-bytes-at10 .ensures, c .before .before .before .before .before .two-bytes-at9 .ensures, c .before .before .before .before .before .before .two-bytes-at8 .ensures, c .before .before .before .before .before .before .before .two-bytes-at7 .ensures, c .before .before .before .before .before .before .before .before .two-bytes-at6 .ensures, c .before .before .before .before .before .before .before .before .before .two-bytes-at5 .ensures, c .before .before .before .before .before .before .before .before .before .before .two-bytes-at4 .ensures, c .before .before .before .before .before .before .before .before .before .before .before .two-bytes-at3 .ensures, c .before .before .before .before .before .before .before .before .before .before .before .before .two-bytes-at2 .ensures, c .before .before .before .before .before .before .before .before .before .before .before .before .before .two-bytes-at .ensures)
 
 pub registers-spec : {M : Type 1} → statement M
 registers-spec =

@@ -8,7 +8,7 @@ use Rattle.stream.proofs.header.settings.Tie as tie
 returns : tie.Need-returns
 unfolding settingsIn
 returns c =
-    rw (c .word-at3 .ensures, c .before .word-at2 .ensures, c .before .before .word-at .ensures, c .before .before .before .circular-at2 .ensures, c .before .before .before .before .circular-at .ensures)
+    rw (c .two-bytes-at3 .ensures, c .before .two-bytes-at2 .ensures, c .before .before .two-bytes-at .ensures, c .before .before .before .circular-at2 .ensures, c .before .before .before .before .circular-at .ensures)
 
 pub settings-spec : {M : Type 1} → statement M
 settings-spec =

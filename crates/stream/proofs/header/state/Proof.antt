@@ -11,9 +11,9 @@ use Rattle.stream.proofs.header.state.Tie as tie
 returns : tie.Need-returns
 unfolding stateIn
 returns c =
-    let a : toZ w64 (ofZ w64 (c .before .before .before .before .before .before .before .before .before .number-at .result)) ≡ c .before .before .before .before .before .before .before .before .before .number-at .result = search needs in
-    let b : toZ w64 (ofZ w64 (c .before .before .before .before .before .before .before .before .number-at2 .result)) ≡ c .before .before .before .before .before .before .before .before .number-at2 .result = search needs in
-    rw (a, b, c .before .before .before .before .before .before .before .before .before .before .registers .ensures, c .before .before .before .before .before .before .before .before .before .number-at .ensures, c .before .before .before .before .before .before .before .before .number-at2 .ensures, c .before .before .before .before .before .before .before .word-at .ensures, c .before .before .before .before .before .before .loops .ensures, c .before .before .before .before .before .long-at .ensures, c .before .before .before .before .word-at2 .ensures, c .before .before .before .flag .ensures, c .before .before .flag2 .ensures, c .before .flag3 .ensures, c .flag4 .ensures)
+    let a : toZ w64 (ofZ w64 (c .before .before .before .before .before .before .before .before .before .eight-bytes-at .result)) ≡ c .before .before .before .before .before .before .before .before .before .eight-bytes-at .result = search needs in
+    let b : toZ w64 (ofZ w64 (c .before .before .before .before .before .before .before .before .eight-bytes-at2 .result)) ≡ c .before .before .before .before .before .before .before .before .eight-bytes-at2 .result = search needs in
+    rw (a, b, c .before .before .before .before .before .before .before .before .before .before .registers .ensures, c .before .before .before .before .before .before .before .before .before .eight-bytes-at .ensures, c .before .before .before .before .before .before .before .before .eight-bytes-at2 .ensures, c .before .before .before .before .before .before .before .two-bytes-at .ensures, c .before .before .before .before .before .before .loops .ensures, c .before .before .before .before .before .four-bytes-at .ensures, c .before .before .before .before .two-bytes-at2 .ensures, c .before .before .before .flag .ensures, c .before .before .flag2 .ensures, c .before .flag3 .ensures, c .flag4 .ensures)
 
 pub state-spec : {M : Type 1} → statement M
 state-spec =

@@ -5,15 +5,15 @@ use lib.ListN.{length, length-set}
 use mathlib.Core.Path.{ap}
 use mathlib.Core.List.{List, _++_}
 use lib.ListN.{drop, set}
-use Rattle.stream.specs.Header.{wordAt}
-use Rattle.stream.specs.Memory.{wordsOf}
+use Rattle.stream.specs.Header.{twoBytesAt}
+use Rattle.stream.specs.Memory.{memoryIn}
 use Rattle.stream.proofs.Words.{word-more, words-end}
 use native.Mathlib.Omega.{arith}
 use Rattle.stream.proofs.memory.fill.Statement.{statement}
 use Rattle.stream.proofs.memory.fill.Tie as tie
 
 abbrev Inv-loop : tie.InvT-loop
-Inv-loop memory₀ bytes i₀ memory i = (i ≤ length memory) × (memory ≡ wordsOf bytes i ++ drop i memory₀) × (length memory ≡ length memory₀)
+Inv-loop memory₀ bytes i₀ memory i = (i ≤ length memory) × (memory ≡ memoryIn bytes i ++ drop i memory₀) × (length memory ≡ length memory₀)
 
 abbrev μ-loop : tie.MeasureT-loop
 μ-loop memory₀ bytes i₀ memory i = length memory - i
@@ -30,7 +30,7 @@ loop-again c =
     let bytes = c .before .before .before .before .before .before .before .args .bytes .now in
     let memory₀ = c .before .before .before .before .before .before .before .args .memory .now in (
       simp length-set (omega arith),
-      rw (c .word .ensures) (ap (λ (l : List _). set l (loop .i) (wordAt bytes (2 * loop .i))) (loop .inv .1) ∙ word-more bytes memory₀ (loop .i) (omega arith)),
+      rw (c .two-bytes .ensures) (ap (λ (l : List _). set l (loop .i) (twoBytesAt bytes (2 * loop .i))) (loop .inv .1) ∙ word-more bytes memory₀ (loop .i) (omega arith)),
       simp length-set (loop .inv .2),
     )
 
