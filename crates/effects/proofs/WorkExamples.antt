@@ -28,7 +28,7 @@ use Rattle.effects.specs.Access.{operandAccess, prefetchAccess, backAcce
 use Rattle.effects.specs.Effect.{Work}
 use Rattle.effects.specs.Mac.{exactBy, macExact, macAccesses, arrived, macRegisters, macWork}
 use Rattle.effects.specs.Operations.{storeWork, moveWork, workOf}
-use Rattle.effects.specs.declared.effect.Value.{Value}
+use Rattle.effects.specs.declared.access.Place.the-variants.{Memory}
 use Rattle.effects.specs.declared.effect.Value.the-variants.{Word, Scaled}
 
 -- W8 holds a, all other registers 0
@@ -49,12 +49,13 @@ workFrom o w = workOf (plainSettings 2) (modeOf 0x20) o (coreOn w) (100 ∷ 101 
 abbrev backFrom : Target → Operation
 backFrom t = MacOperation (record { action = Movsac; target = t; m = 0; n = 0; x = NoRead; xto = 0; y = NoRead; yto = 0; back = ToRegister })
 
--- 18 stores the old W8 through W8, which then is 2 more
+-- 18 stores the old W8 through W8, to word 1; W8 then is 2 more
 store-of-pointer :
     (workFrom (Store 8 8 Increment) (pointing 0x1002) .effect .value ≡ Word 0x1002)
+    × (workFrom (Store 8 8 Increment) (pointing 0x1002) .effect .place ≡ Memory (record { 0 = 1 }))
     × (workFrom (Store 8 8 Increment) (pointing 0x1002) .w ≡ pointing 0x1004)
 unfolding workFrom
-store-of-pointer = (refl, refl)
+store-of-pointer = (refl, refl, refl)
 
 -- write-back is the other accumulator's: of target A it is B, 5, and of target B it is A, 3
 write-back :

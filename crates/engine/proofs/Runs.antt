@@ -163,7 +163,7 @@ module _ {S T : Type 0} (R : S → T → Type 0) (Z : S → Type 0) (doneS : S �
     (same-done : (s : S) (t : T) → R s t → doneS s ≡ doneT t)
     (step : (k : ℕ) (s : S) (t : T) → doneT t ≡ false → R s t → TurnsAlike R Z (turnS k s) (turnT k t))
     (stays : (k : ℕ) (s : S) → doneS s ≡ false → Z s → Keeps Z Z (turnS k s)) where
-  -- the law: a relation that the turns of two machines keep is kept by their runs
+  -- the first's run from each machine in R with t is like the run y of the second
   abbrev Alike : ℕ → ℕ → T → Result T → Type 0
   Alike n k t y = (s : S) → R s t → AlikeUnless R Z (run doneS turnS n k s) y
 
@@ -180,6 +180,7 @@ module _ {S T : Type 0} (R : S → T → Type 0) (Z : S → Type 0) (doneS : S �
   over-alike n k t left d is s h =
       rw (run-turn doneS turnS n k s (turnS k s) (same-done s t h ∙ d) refl) (into-ends n k s (turnS k s) (subst (TurnsAlike R Z (turnS k s)) is (step k s t d h)))
 
+  -- the law: a relation that the turns of two machines keep is kept by their runs
   pub run-alike : (n k : ℕ) (s : S) (t : T) → R s t → AlikeUnless R Z (run doneS turnS n k s) (run doneT turnT n k t)
   run-alike n k s t h =
       by-run doneT turnT Alike
