@@ -1,6 +1,7 @@
 // Services from standard input, each answered by a line on standard output (docs/SERVICE.md has both forms).
 use address::word::WordIndex;
 use libc::STDIN_FILENO;
+use libc::STDOUT_FILENO;
 use service::call::ServiceOutcome;
 use service::call::Window;
 use service::call::serve;
@@ -8,8 +9,6 @@ use stream::header;
 use stream::line;
 use stream::line::LINE;
 use stream::memory::fill;
-use stream::print::print;
-use stream::print::print_start;
 ghost use mathlib.Core.Path.{_≡_};
 ghost use Prim.Native.Nat.{_*_, _≤_};
 ghost use lib.ListN.{length};
@@ -33,15 +32,22 @@ struct Sizes {
     steps: usize,
 }
 
+// The beginning of a text on standard output, so many bytes of it.
+fn print_start(text: [u8; LINE], size: usize)
+    requires { ⌜ size ≤ 640 ⌝ }
+{
+    io::write_all(STDOUT_FILENO, &text[0..size]);
+}
+
 // The last line of a stream that breaks off.
 fn short() -> bool {
-    print(b"short\n");
+    io::write_all(STDOUT_FILENO, b"short\n");
     false
 }
 
 // The last line of a stream that asks for too much.
 fn too_large() -> bool {
-    print(b"toolarge\n");
+    io::write_all(STDOUT_FILENO, b"toolarge\n");
     false
 }
 
@@ -157,7 +163,7 @@ fn print_service(r: ServiceOutcome, memory: &[u16], bags: usize, endings: &[u8],
     if r.refusal == 0 {
         print_bags(bags, endings, steps);
     }
-    print(b"\n");
+    io::write_all(STDOUT_FILENO, b"\n");
 }
 
 // The service, and its line.

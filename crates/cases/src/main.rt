@@ -7,6 +7,7 @@ use engine::call::run;
 use engine::outcome::Outcome;
 use join::call::join;
 use libc::STDIN_FILENO;
+use libc::STDOUT_FILENO;
 use program::answer::Answer;
 use program::file::load;
 use program::write::write;
@@ -16,8 +17,6 @@ use stream::line;
 use stream::line::LINE;
 use stream::line::Verb;
 use stream::memory::fill;
-use stream::print::print;
-use stream::print::print_start;
 ghost use mathlib.Core.Path.{_≡_};
 ghost use Prim.Native.Nat.{_*_, _≤_};
 ghost use lib.ListN.{length};
@@ -32,6 +31,13 @@ const RUN: u8 = 16;
 const JOIN: u8 = 17;
 // Boards combined.
 const COMBINE: u8 = 22;
+
+// The beginning of a text on standard output, so many bytes of it.
+fn print_start(text: [u8; LINE], size: usize)
+    requires { ⌜ size ≤ 640 ⌝ }
+{
+    io::write_all(STDOUT_FILENO, &text[0..size]);
+}
 
 // The line of a run, which has more fields in the long form.
 fn print_run(what: u8, outcome: Outcome, memory: &[u16]) {
@@ -110,7 +116,7 @@ fn combined(boards: [Board; 8], count: usize, mode: u16) -> Combined
 fn answer_combine(head: [u8; 320], file: &[u8]) {
     let count = header::budget(head) as usize;
     if file.len() != 9 * count {
-        print(b"short\n");
+        io::write_all(STDOUT_FILENO, b"short\n");
         return;
     }
     let answer = combined(boards(file, count), count, header::mode_word(head));
@@ -162,13 +168,13 @@ fn answer(
     } else if what == COMBINE {
         answer_combine(head, file);
     } else {
-        print(b"unknown\n");
+        io::write_all(STDOUT_FILENO, b"unknown\n");
     }
 }
 
 // The last line of a stream that breaks off or asks for too much.
 fn stop(text: &[u8]) -> bool {
-    print(text);
+    io::write_all(STDOUT_FILENO, text);
     false
 }
 

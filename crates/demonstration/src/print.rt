@@ -1,13 +1,19 @@
 // Text and numbers on standard output.
 use libc::STDOUT_FILENO;
 use stream::line::LINE;
-use stream::print::print;
-use stream::print::print_start;
 use stream::text::append_number;
 use stream::text::append_signed;
+ghost use Prim.Native.Nat.{_≤_};
+
+// The beginning of a text on standard output, so many bytes of it.
+fn print_start(text: [u8; LINE], size: usize)
+    requires { ⌜ size ≤ 640 ⌝ }
+{
+    io::write_all(STDOUT_FILENO, &text[0..size]);
+}
 
 pub fn text(b: &[u8]) {
-    print(b);
+    io::write_all(STDOUT_FILENO, b);
 }
 
 pub fn number(n: u64) {

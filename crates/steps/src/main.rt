@@ -1,13 +1,20 @@
 // Cases from standard input, in each of which one step is made, answered by a line on standard output.
 use libc::STDIN_FILENO;
+use libc::STDOUT_FILENO;
 use machine::single::single_step;
 use stream::header;
 use stream::line;
 use stream::line::LINE;
 use stream::memory::fill;
-use stream::print::print_start;
 ghost use Prim.Native.Nat.{_*_, _≤_};
 ghost use lib.ListN.{length};
+
+// The beginning of a text on standard output, so many bytes of it.
+fn print_start(text: [u8; LINE], size: usize)
+    requires { ⌜ size ≤ 640 ⌝ }
+{
+    io::write_all(STDOUT_FILENO, &text[0..size]);
+}
 
 // One case: its header, the program file, the words of memory. The simulator makes none that is longer than the buffers; it would have no answer,
 // and what follows it would be out of step.

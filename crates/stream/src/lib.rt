@@ -6,6 +6,5 @@ mod field;
 pub mod header;
 pub mod line;
 pub mod memory;
-pub mod print;
 mod state_fields;
 pub mod text;

@@ -2,11 +2,12 @@
 use engine::call::run;
 use engine::outcome::Outcome;
 use libc::STDIN_FILENO;
+use libc::STDOUT_FILENO;
 use state::settings::Settings;
 use state::state::State;
 use stream::line::LINE;
 use stream::line::tally_line;
-use stream::print::print_start;
+ghost use Prim.Native.Nat.{_≤_};
 ghost use Rattle.state.specs.State.{resetState};
 ghost use Rattle.state.specs.Settings.{plainSettings};
 ghost use Rattle.engine.specs.Call.{Runs};
@@ -18,6 +19,13 @@ fn tally(file: &[u8], memory: &mut [u16]) -> Outcome
     let settings = Settings::plain(1024);
     let state = State::reset();
     run(file, settings, state, memory, 100000)
+}
+
+// The beginning of a text on standard output, so many bytes of it.
+fn print_start(text: [u8; LINE], size: usize)
+    requires { ⌜ size ≤ 640 ⌝ }
+{
+    io::write_all(STDOUT_FILENO, &text[0..size]);
 }
 
 // One byte more than a file can have is read, so that a longer input is refused with 1.
