@@ -2,13 +2,13 @@
 use address::word::WordIndex;
 use libc::STDIN_FILENO;
 use libc::STDOUT_FILENO;
+use lines::line;
 use service::call::ServiceOutcome;
 use service::call::Window;
 use service::call::serve;
 use stream::header;
-use stream::line;
-use stream::line::LINE;
 use stream::memory::fill;
+use text::buffer::LINE;
 ghost use mathlib.Core.Path.{_≡_};
 ghost use Prim.Native.Nat.{_*_, _≤_};
 ghost use lib.ListN.{length};

@@ -24,10 +24,10 @@ use Rattle.machine.proofs.Order.{modeAfter, controlled-frame}
 use Rattle.machine.proofs.ControlKinds.{by-kind}
 use Rattle.machine.proofs.Works.{settled-mode}
 use Rattle.engine.specs.Run.{Result}
-use Rattle.engine.specs.Engine.{Engine, engineTurn}
+use Rattle.engine.specs.Engine.{Engine, engineTurn, engineDone}
 use Rattle.engine.proofs.Holds.{holds-none}
 use Rattle.engine.proofs.Agree.{settle-stays}
-use Rattle.engine.proofs.Steps.{Leads, turn-completes, transition, each-listed}
+use Rattle.engine.proofs.Steps.{Leads, turn-completes, steps-keep, transition, each-listed}
 use Rattle.combine.specs.Dot.{byteOf, writesA, addsToA, BoardCall, ranOn, StepFits, CallFits, setsOther, isStray, holdsStray}
 use Rattle.combine.proofs.Stretches.{runOn, stretch-stepwise}
 
@@ -95,8 +95,9 @@ module _ (mode : ℕ) (x : BoardCall) (word : x .state .core .mode ≡ mode) (st
   step-at i l at = step-checked mode p (x .settings) (runs i .machine) (runs (suc i) .machine) at (fine (runs i .machine .state .core .pc)) (stretch-stepwise x .leads i l .1)
 
   word-at : (i : ℕ) → i ≤ ranOn x .steps → runs i .machine .state .core .mode ≡ mode
-  word-at zero l = ap (λ (e : Engine). e .state .core .mode) (stretch-stepwise x .begins) ∙ word
-  word-at (suc i) l = step-at i (omega arith) (word-at i (omega arith)) .word
+  word-at =
+      steps-keep (engineDone p) (engineTurn p (x .settings)) (record { state = x .state; memory = x .memory }) runs (x .budget) (stretch-stepwise x)
+      (λ i e. e .state .core .mode ≡ mode) word (λ i l goes at. step-at i l at .word)
 
   -- what a user can check of a program and a start
   pub checked-fits : modeOf mode .unsigned ≡ false → x .state .core .a ≡ pos 0 → x .state .sa ≡ false → CallFits mode x

@@ -3,7 +3,6 @@ use Prim.Native.Nat.{ℕ, zero, suc, _<_, _≤_}
 use mathlib.Core.Bool.{Bool, true, false, cond}
 use mathlib.Core.List.{List, [], _∷_, _++_}
 use mathlib.Core.Path.{_≡_, refl, sym, ap, _∙_, subst}
-use native.Mathlib.Nat.{le-refl}
 use native.Mathlib.Omega.{arith}
 use lib.IntN.{ℤ, _+ℤ_, +ℤ-idl, +ℤ-idr, +ℤ-assoc}
 use Rattle.integers.proofs.Whole.{same-test, neither, never}
@@ -29,7 +28,7 @@ use Rattle.engine.specs.Run.{Result}
 use Rattle.engine.specs.Engine.{Engine, engineTurn, engineDone}
 use Rattle.engine.specs.Call.{runOf}
 use Rattle.engine.specs.Steps.{Transition, firstSteps}
-use Rattle.engine.proofs.Steps.{Leads, turn-completes, Stepwise, call-stepwise, call-listed, transition, step-listed}
+use Rattle.engine.proofs.Steps.{Leads, StepsOn, turn-completes, Stepwise, end-keeps, call-stepwise, call-listed, transition, step-listed}
 use Rattle.combine.specs.Dot.{Pair, pairProduct, dotOf, writesA, addsToA, pairOf, executed, pairsIn, BoardCall, ranOn, pairsOn, StepFits, CallFits}
 use Rattle.combine.proofs.Works.{Meets, work-meets, adds-onward}
 
@@ -152,11 +151,6 @@ module _ (mode : ℕ) (x : BoardCall) (h : CallFits mode x) where
   step-fits : (i : ℕ) → i < made → StepFits mode p (transition runs i)
   step-fits i l = h .steps (transition runs i) (step-listed runs made i l)
 
-  -- the mode word after i steps
-  word-at : (i : ℕ) → i ≤ made → runs i .machine .state .core .mode ≡ mode
-  word-at zero l = ap (λ (e : Engine). e .state .core .mode) (stretch-stepwise x .begins) ∙ h .word
-  word-at (suc i) l = step-fits i (omega arith) .word
-
   -- where SA is clear after a step, it was clear before it
   clear-at : (i : ℕ) → i < made → runs (suc i) .machine .state .sa ≡ false → runs i .machine .state .sa ≡ false
   clear-at i l clear = go (runs i .machine .state .sa) refl
@@ -165,24 +159,33 @@ module _ (mode : ℕ) (x : BoardCall) (h : CallFits mode x) where
       go true e = never (sym clear ∙ step-fits i l .flag e)
       go false e = e
 
-  -- A after i steps, where SA is clear
-  sum-at : (i : ℕ) → i ≤ made → runs i .machine .state .sa ≡ false
-      → runs i .machine .state .core .a ≡ dotOf (modeOf mode .integer) (pairsIn p (firstSteps runs i))
+  -- after i steps: the mode word; A, where SA is clear
+  pub record Summed (i : ℕ) (e : Engine) : Type 0 where
+    pub word : e .state .core .mode ≡ mode
+    pub sum : e .state .sa ≡ false → e .state .core .a ≡ dotOf (modeOf mode .integer) (pairsIn p (firstSteps runs i))
+
+  begins-summed : Summed 0 (record { state = x .state; memory = x .memory })
   unfolding firstSteps pairsIn dotOf
-  sum-at zero l clear = ap (λ (e : Engine). e .state .core .a) (stretch-stepwise x .begins) ∙ h .start
-  sum-at (suc i) l clear =
+  begins-summed = record { word = h .word; sum = λ clear. h .start }
+
+  step-summed : (i : ℕ) → i < made → StepsOn (engineDone p) (engineTurn p (x .settings)) (runs i .machine) (runs (suc i) .machine) → Summed i (runs i .machine)
+      → Summed (suc i) (runs (suc i) .machine)
+  unfolding firstSteps
+  step-summed i l (more, leads) before =
       let integer = modeOf mode .integer in
       let t = transition runs i in
-      let below : i < made = omega arith in
-      let before = sum-at i (omega arith) (clear-at i below clear) in
-      let listed = call-listed (x .file) (x .settings) (x .state) (x .memory) (x .budget) i below (t .from .state .core .pc) in
-      let here =
-      step-adds mode (h .signed) p (x .settings) (t .from) (t .to) (word-at i (omega arith)) listed (step-fits i below .kind) (stretch-stepwise x .leads i below .1) clear in
-      here ∙ ap (λ (z : ℤ). z +ℤ dotOf integer (pairsIn p (t ∷ []))) before
-      ∙ sym (dot-append integer (pairsIn p (firstSteps runs i)) (pairsIn p (t ∷ [])))
-      ∙ ap (dotOf integer) (sym (pairs-append p (firstSteps runs i) (t ∷ [])))
+      let listed = call-listed (x .file) (x .settings) (x .state) (x .memory) (x .budget) i l (t .from .state .core .pc) in
+      record {
+        word = step-fits i l .word;
+        sum =
+            λ clear.
+            step-adds mode (h .signed) p (x .settings) (t .from) (t .to) (before .word) listed (step-fits i l .kind) leads clear
+            ∙ ap (λ (z : ℤ). z +ℤ dotOf integer (pairsIn p (t ∷ []))) (before .sum (clear-at i l clear))
+            ∙ sym (dot-append integer (pairsIn p (firstSteps runs i)) (pairsIn p (t ∷ [])))
+            ∙ ap (dotOf integer) (sym (pairs-append p (firstSteps runs i) (t ∷ [])));
+      }
 
   pub stretch-exact : ranOn x .machine .state .sa ≡ false → ranOn x .machine .state .core .a ≡ dotOf (modeOf mode .integer) (pairsOn x)
-  stretch-exact clear =
-      ap (λ (e : Engine). e .state .core .a) (sym (stretch-stepwise x .ends))
-      ∙ sum-at made (le-refl made) (ap (λ (e : Engine). e .state .sa) (stretch-stepwise x .ends) ∙ clear)
+  stretch-exact =
+      end-keeps (engineDone p) (engineTurn p (x .settings)) (record { state = x .state; memory = x .memory }) runs (x .budget) (stretch-stepwise x) Summed
+      begins-summed step-summed .sum

@@ -3,7 +3,7 @@ use address::step::Buffer;
 use address::step::sum;
 use address::word::ByteAddress;
 use address::word::MEMORY_START;
-use stream::text::magnitude;
+use text::text::magnitude;
 ghost use Prim.Native.Nat.{_<_, _^_};
 
 // The number drawn after x: 48,271 x modulo 2^31 - 1.

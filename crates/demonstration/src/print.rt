@@ -1,8 +1,8 @@
 // Text and numbers on standard output.
 use libc::STDOUT_FILENO;
-use stream::line::LINE;
-use stream::text::append_number;
-use stream::text::append_signed;
+use text::buffer::LINE;
+use text::text::append_number;
+use text::text::append_signed;
 ghost use Prim.Native.Nat.{_≤_};
 
 // The beginning of a text on standard output, so many bytes of it.

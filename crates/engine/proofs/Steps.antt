@@ -1,10 +1,12 @@
--- The steps of a run are turns of its machine, each from where the one before it ended, and the last ends where the run does. Assumes nothing.
+-- The steps of a run are turns of its machine, each from where the one before it ended, and the last ends where the run does; what each step keeps holds
+-- after each. Assumes nothing.
 use Prim.Native.Nat.{ℕ, zero, suc, _+_, _<_, _≤_}
 use mathlib.Core.Bool.{Bool, true, false}
 use mathlib.Core.List.{List, [], _∷_, _++_, List·Memᴰ, List·Memᴰ·head, List·Memᴰ·not-nil, List·Memᴰ·append-cases, List·Memᴰ·eq-of-singleton}
 use mathlib.Core.List.{Memᴰ·append-left, Memᴰ·append-right}
 use mathlib.Core.Logic.{⊎-elim}
 use mathlib.Core.Path.{_≡_, refl, sym, ap, _∙_, subst}
+use native.Mathlib.Nat.{le-refl}
 use native.Mathlib.Omega.{arith}
 use borrow.Author.Tests.{eqb-true, ltb-true, ltb-false}
 use lib.Dec.{eqb, ltb}
@@ -48,7 +50,7 @@ module _ {S : Type 0} (done : S → Bool) (turn : S → Turn S) where
   from n k s = run done (λ i. turn) n k s
 
   -- a machine that is not done makes a step
-  abbrev StepsOn : S → S → Type 0
+  abbrev pub StepsOn : S → S → Type 0
   StepsOn x y = (done x ≡ false) × Leads (turn x) y
 
   -- where a run makes at least one step more than i, step i + 1 leads from the machine after i to the one after i + 1
@@ -117,6 +119,17 @@ pub record Stepwise {S : Type 0} (done : S → Bool) (turn : S → Turn S) (star
   pub begins : runs 0 .machine ≡ start
   pub leads : (i : ℕ) → i < runs budget .steps → StepsOn done turn (runs i .machine) (runs (suc i) .machine)
   pub ends : runs (runs budget .steps) .machine ≡ runs budget .machine
+
+-- what holds at the start and is kept by every step holds after each number of steps, and so at the end
+module _ {S : Type 0} (done : S → Bool) (turn : S → Turn S) (start : S) (runs : ℕ → Result S) (budget : ℕ) (goes : Stepwise done turn start runs budget)
+    (P : ℕ → S → Type 0) (begins : P 0 start)
+    (step : (i : ℕ) → i < runs budget .steps → StepsOn done turn (runs i .machine) (runs (suc i) .machine) → P i (runs i .machine) → P (suc i) (runs (suc i) .machine)) where
+  pub steps-keep : (i : ℕ) → i ≤ runs budget .steps → P i (runs i .machine)
+  steps-keep zero l = subst (P 0) (sym (goes .begins)) begins
+  steps-keep (suc i) l = step i (omega arith) (goes .leads i (omega arith)) (steps-keep i (omega arith))
+
+  pub end-keeps : P (runs budget .steps) (runs budget .machine)
+  end-keeps = subst (P (runs budget .steps)) (goes .ends) (steps-keep (runs budget .steps) (le-refl _))
 
 pub run-stepwise : {S : Type 0} (done : S → Bool) (turn : S → Turn S) (start : S) (budget : ℕ)
     → Stepwise done turn start (λ n. run done (λ i. turn) n 0 start) budget

@@ -3,7 +3,7 @@ use crate::control::control_of;
 use crate::control::proceed;
 use crate::write::put;
 use crate::write::settle;
-use crate::write::word_of;
+use crate::write::value_word;
 use accumulator::mode::Mode;
 use effects::effect::Effect;
 use effects::effect::effect_of;
@@ -50,7 +50,7 @@ fn complete(
     let value = e.value;
     let place = e.place;
     let exact = e.exact;
-    let word = word_of(mode, value);
+    let word = value_word(mode, value);
     put(place, word, w, memory);
     let written = settle(settings.traps, mode, exact, s);
     let after = written.scalars;

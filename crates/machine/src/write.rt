@@ -68,7 +68,7 @@ pub fn settle(traps: u16, mode: Mode, exact: Exact, s: Scalars) -> Written
 }
 
 // The word of a value.
-pub fn word_of(mode: Mode, value: Value) -> u16
+pub fn value_word(mode: Mode, value: Value) -> u16
     ensures { λ x. ⌜ x ≡ valueWord mode value ⌝ }
 {
     match value {

@@ -162,7 +162,7 @@ fn transfer_of(b: [u8; 8]) -> Operation
 }
 
 // Two bytes as a word, low byte first.
-fn word_of(low: u8, high: u8) -> u16
+fn word_from(low: u8, high: u8) -> u16
     ensures { λ r. ⌜ r ≡ low + 256 * high ⌝ }
 {
     low as u16 + 256 * (high as u16)
@@ -173,7 +173,7 @@ fn move_of(b: [u8; 8]) -> Operation
     ensures { λ r. ⌜ r ≡ moveOf b ⌝ }
 {
     let register = b[1];
-    let value = word_of(b[2], b[3]);
+    let value = word_from(b[2], b[3]);
     let pointer = b[3];
     let post = post_of(b[4]);
     match b[0] {
@@ -195,12 +195,12 @@ fn move_of(b: [u8; 8]) -> Operation
 }
 
 // Kinds 19 to 25.
-fn control_of(b: [u8; 8]) -> Operation
+fn control_operation_of(b: [u8; 8]) -> Operation
     ensures { λ r. ⌜ r ≡ controlOperationOf b ⌝ }
 {
     let register = b[1];
-    let first = word_of(b[2], b[3]);
-    let last = word_of(b[4], b[5]);
+    let first = word_from(b[2], b[3]);
+    let last = word_from(b[4], b[5]);
     match b[0] {
         19 => Operation::Repeat { count: first },
         20 => Operation::RepeatRegister { register },
@@ -229,7 +229,7 @@ pub fn operation_of(b: [u8; 8]) -> Operation
     if kind <= 18 {
         return move_of(b);
     }
-    control_of(b)
+    control_operation_of(b)
 }
 
 // The operation that 8 bytes are, if every field is in its range.

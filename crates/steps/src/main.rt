@@ -1,11 +1,11 @@
 // Cases from standard input, in each of which one step is made, answered by a line on standard output.
 use libc::STDIN_FILENO;
 use libc::STDOUT_FILENO;
+use lines::line;
 use machine::single::single_step;
 use stream::header;
-use stream::line;
-use stream::line::LINE;
 use stream::memory::fill;
+use text::buffer::LINE;
 ghost use Prim.Native.Nat.{_*_, _≤_};
 ghost use lib.ListN.{length};
 

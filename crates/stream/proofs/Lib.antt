@@ -1,9 +1,3 @@
-pub mod LineExamples
 pub mod HeaderExamples
-pub mod Magnitude
 pub mod Halves
 pub mod Words
-pub mod Appending
-pub mod Decimal
-pub mod Fields
-pub mod Names

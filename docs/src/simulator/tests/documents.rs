@@ -1,7 +1,8 @@
 //! The documents beside the proved code: docs/GUARANTEES.md has every public function
-//! that asks something of its caller, and docs/TRACE.md names what stands in the tree.
+//! that asks something of its caller, docs/TRACE.md names what stands in the tree, and a
+//! name is defined in one file of definitions.
 
-use std::collections::BTreeSet;
+use std::collections::{BTreeMap, BTreeSet};
 use std::fs;
 use std::path::PathBuf;
 
@@ -105,16 +106,41 @@ fn guarantees_have_every_public_function_that_asks() {
     );
 }
 
+/// The name that a line of definitions or proofs declares.
+fn declared(line: &str) -> Option<&str> {
+    let mut line = line.trim();
+    for mark in ["unfoldable ", "abbrev ", "pub ", "record ", "data "] {
+        line = line.strip_prefix(mark).unwrap_or(line);
+    }
+    let (name, rest) = line.split_once(' ')?;
+    let is_type = [':', '(', '{'].iter().any(|next| rest.starts_with(*next));
+    (is_type && name != "use" && name != "--").then_some(name)
+}
+
 /// Whether a text of definitions or proofs declares a name.
 fn declares(text: &str, name: &str) -> bool {
-    text.lines().any(|line| {
-        let mut line = line.trim();
-        for mark in ["unfoldable ", "abbrev ", "pub ", "record ", "data "] {
-            line = line.strip_prefix(mark).unwrap_or(line);
+    text.lines().any(|line| declared(line) == Some(name))
+}
+
+#[test]
+fn a_name_is_defined_once() {
+    let mut standing = BTreeMap::new();
+    let mut twice = Vec::new();
+    for krate in names("crates") {
+        for file in names(&format!("crates/{krate}/specs")) {
+            let place = format!("crates/{krate}/specs/{file}");
+            let text = text(&place);
+            let outermost = text.lines().filter(|line| !line.starts_with(' '));
+            let here: BTreeSet<&str> = outermost.filter_map(declared).collect();
+            for name in here {
+                if let Some(other) = standing.insert(name.to_string(), place.clone()) {
+                    twice.push(format!("`{name}` in {other} and {place}"));
+                }
+            }
         }
-        let rest = line.strip_prefix(name);
-        rest.is_some_and(|rest| [" :", " (", " {"].iter().any(|next| rest.starts_with(next)))
-    })
+    }
+    assert!(standing.len() > 500, "{} names", standing.len());
+    assert!(twice.is_empty(), "defined twice:\n{}", twice.join("\n"));
 }
 
 /// Whether `CRATE FILE.NAME`, or `CRATE FILE.RECORD.FIELD`, stands in a folder of the crate.

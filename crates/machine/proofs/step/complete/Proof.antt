@@ -34,11 +34,11 @@ unfolding completed
 returns c =
     let entry = c .before .before .before .before .before .before .before .before .before .before .before .before .before .before .before in
     let at-before = c .before .before .before .before .before .before .before .before .before .before .before .before .before .before in
-    let at-word-of = c .before .before .before .before .before .before .before .before .before .before .before .before in
+    let at-value-word = c .before .before .before .before .before .before .before .before .before .before .before .before in
     let at-put = c .before .before .before .before .before .before .before .before .before in
     let at-settle = c .before .before .before .before .before .before in
     let at-control-of = c .before .before .before .before in
-    rw (← at-word-of .word-of .ensures, ← at-put .put .ensures .0, ← at-put .put .ensures .1, ← at-settle .settle .ensures _ (now (entry .args .starts)) (now (entry .args .passes)), ← at-control-of .control-of .ensures)
+    rw (← at-value-word .value-word .ensures, ← at-put .put .ensures .0, ← at-put .put .ensures .1, ← at-settle .settle .ensures _ (now (entry .args .starts)) (now (entry .args .passes)), ← at-control-of .control-of .ensures)
     (rw (c .proceed .ensures))
 
 pub complete-spec : {M : Type 1} → statement M

@@ -5,7 +5,7 @@ use Rattle.operations.proofs.decode.move_of.Statement.{statement}
 use Rattle.operations.proofs.decode.move_of.Tie as tie
 
 returns : tie.Need-returns
-returns c = rw (c .match .keys1, c .before .before .word-of .ensures)
+returns c = rw (c .match .keys1, c .before .before .word-from .ensures)
 
 returns-2 : tie.Need-returns-2
 returns-2 c = rw (c .match .keys2, c .before .post-of .ensures)

@@ -23,7 +23,7 @@ returns-4 c = rw (lt-leb _ _ (c .before .before .before .before .if1 .left), lt-
 
 returns-5 : tie.Need-returns-5
 unfolding operationOf
-returns-5 c = rw (lt-leb _ _ (c .before .before .before .before .if1 .left), lt-leb _ _ (c .before .before .before .if2 .left), lt-leb _ _ (c .before .before .if3 .left), lt-leb _ _ (c .before .if4 .left), c .control-of .ensures)
+returns-5 c = rw (lt-leb _ _ (c .before .before .before .before .if1 .left), lt-leb _ _ (c .before .before .before .if2 .left), lt-leb _ _ (c .before .before .if3 .left), lt-leb _ _ (c .before .if4 .left), c .control-operation-of .ensures)
 
 pub operation-of-spec : {M : Type 1} → statement M
 operation-of-spec =

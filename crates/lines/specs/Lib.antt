@@ -1,0 +1,2 @@
+-- The lines that are printed.
+pub mod Line

@@ -1,0 +1,5 @@
+pub mod TextExamples
+pub mod Magnitude
+pub mod Appending
+pub mod Decimal
+pub mod Fields
