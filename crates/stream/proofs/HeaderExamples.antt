@@ -7,9 +7,10 @@ use lib.IntN.{pos}
 use Rattle.integers.specs.Bits.{signedOf}
 use Rattle.integers.specs.Range.{minus}
 use Rattle.address.specs.Reversal.{valuesFrom}
+use Rattle.combine.specs.declared.board.Board.{Board}
 use Rattle.stream.specs.Header.{fileSize, memoryWords, budgetIn, secondSize, outputRoom, settingsIn, stateIn, registersIn, loopsIn}
 use Rattle.stream.specs.Memory.{memoryIn}
-use Rattle.stream.specs.Boards.{boardIn}
+use Rattle.stream.specs.Boards.{boardIn, boardsIn}
 
 -- bytes 0, 1, .., 250, 0, .., 68
 abbrev counted : List ℕ
@@ -68,7 +69,20 @@ state = refl
 two-words : memoryIn (1 ∷ 2 ∷ 3 ∷ 4 ∷ []) 2 ≡ 0x0201 ∷ 0x0403 ∷ []
 two-words = refl
 
--- board 1 of two: A -2, SA by a byte that is not 0
-second-board : boardIn (0 ∷ 0 ∷ 0 ∷ 0 ∷ 0 ∷ 0 ∷ 0 ∷ 0 ∷ 0 ∷ 254 ∷ 255 ∷ 255 ∷ 255 ∷ 255 ∷ 255 ∷ 255 ∷ 255 ∷ 2 ∷ []) 1 ≡ record { a = minus 2; sa = true }
+-- two boards: A 5, SA clear; A -2, SA by a byte that is not 0
+abbrev two-boards : List ℕ
+two-boards = 5 ∷ 0 ∷ 0 ∷ 0 ∷ 0 ∷ 0 ∷ 0 ∷ 0 ∷ 0 ∷ 254 ∷ 255 ∷ 255 ∷ 255 ∷ 255 ∷ 255 ∷ 255 ∷ 255 ∷ 2 ∷ []
+
+second-board : boardIn two-boards 1 ≡ record { a = minus 2; sa = true }
 unfolding signedOf
 second-board = refl
+
+-- the eight entries of a call with both, and of one with the first alone: past the count A 0, SA clear
+abbrev none : Board
+none = record { a = pos 0; sa = false }
+
+entries :
+    (boardsIn two-boards 2 ≡ record { a = pos 5; sa = false } ∷ record { a = minus 2; sa = true } ∷ none ∷ none ∷ none ∷ none ∷ none ∷ none ∷ [])
+    × (boardsIn two-boards 1 ≡ record { a = pos 5; sa = false } ∷ none ∷ none ∷ none ∷ none ∷ none ∷ none ∷ none ∷ [])
+unfolding boardsIn signedOf
+entries = (refl, refl)

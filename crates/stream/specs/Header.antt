@@ -110,6 +110,10 @@ loopsIn head =
 abbrev pub flagIn : List ℕ → ℕ → Bool
 flagIn head i = bitAt i (getD head 110 0)
 
+-- at 108, 2 bytes: the mode word
+abbrev pub modeWordIn : List ℕ → ℕ
+modeWordIn head = twoBytesAt head 108
+
 -- 60 and 68 A and B, 76 pc, 104 repeat left, 108 mode word
 unfoldable pub stateIn : List ℕ → State
 stateIn head =
@@ -122,7 +126,7 @@ stateIn head =
             pc = twoBytesAt head 76;
             loops = loopsIn head;
             repeat = fourBytesAt head 104;
-            mode = twoBytesAt head 108;
+            mode = modeWordIn head;
             oa = flagIn head 0;
             ob = flagIn head 1;
           };

@@ -11,7 +11,7 @@ ghost use mathlib.Core.Path.{_≡_};
 ghost use Prim.Native.Nat.{_+_, _*_, _<_};
 ghost use Rattle.integers.specs.Bits.{signedOf};
 ghost use Rattle.stream.specs.Header.{twoBytesOf, twoBytesAt, fourBytesOf, fourBytesAt, eightBytesOf, eightBytesAt, fileSize, memoryWords, budgetIn, secondSize, outputRoom};
-ghost use Rattle.stream.specs.Header.{circularAt, settingsIn, registersIn, loopsIn, flagIn, stateIn};
+ghost use Rattle.stream.specs.Header.{circularAt, settingsIn, registersIn, loopsIn, flagIn, modeWordIn, stateIn};
 
 // 16 bits.
 pub fn two_bytes(low: u8, high: u8) -> u16
@@ -101,7 +101,7 @@ pub fn budget(head: [u8; 320]) -> u32
 
 // The mode word.
 pub fn mode_word(head: [u8; 320]) -> u16
-    ensures { λ r. ⌜ r ≡ twoBytesAt head 108 ⌝ }
+    ensures { λ r. ⌜ r ≡ modeWordIn head ⌝ }
 {
     two_bytes_at(head, 108)
 }
