@@ -128,6 +128,12 @@ by-three =
       clear = refl;
     }
 
+-- ---- no pair at all, on two boards: both parts are empty
+
+no-parts : Cut [] (λ i. 0) (λ i. none) 2
+unfolding opened
+no-parts = record { begins = refl; ends = refl; ascends = λ i l. omega arith; parts = λ i l. refl }
+
 -- ---- fractional, on eight boards: -12 + 20,800 + 2^31, with OA
 
 abbrev other : List Pair

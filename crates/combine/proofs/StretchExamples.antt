@@ -2,12 +2,13 @@
 -- nothing.
 use Prim.Native.Nat.{ℕ, zero, suc, _-_, _^_, _<_}
 use mathlib.Core.Bool.{Bool, true, false}
-use mathlib.Core.List.{List, [], _∷_, _++_, map}
+use mathlib.Core.List.{List, [], _∷_, _++_, map, List·Memᴰ}
 use mathlib.Core.Path.{_≡_, refl}
 use native.Mathlib.Omega.{arith}
 use lib.IntN.{ℤ, pos}
 use lib.ListN.{replicate}
-use Rattle.integers.specs.Bits.{signedOf}
+use Rattle.integers.specs.Floor.{remainderOf}
+use Rattle.integers.specs.Bits.{lowBits, signedOf}
 use Rattle.integers.proofs.Whole.{never}
 use Rattle.integers.specs.Range.{minus}
 use Rattle.accumulator.specs.Mode.{modeOf}
@@ -35,11 +36,11 @@ use Rattle.engine.specs.Engine.{Engine}
 use Rattle.engine.specs.declared.ending.Ending.the-variants.{Trap}
 use Rattle.engine.specs.Holds.{holds}
 use Rattle.engine.specs.Call.{runOf}
-use Rattle.engine.specs.Steps.{firstSteps}
+use Rattle.engine.specs.Steps.{Transition, firstSteps}
 use Rattle.engine.proofs.Opened.{engine}
 use Rattle.engine.proofs.RunExamples.{trapping, plain, memory, start, bare}
 use Rattle.engine.proofs.Steps.{transition, each-listed}
-use Rattle.combine.specs.Dot.{Pair, dotOf, writesA, addsToA, pairOf, pairsIn, BoardCall, ranOn, pairsOn, StepFits, CallFits, isStray, holdsStray}
+use Rattle.combine.specs.Dot.{Pair, dotOf, writesA, addsToA, pairOf, pairsIn, BoardCall, ranOn, stepsOn, pairsOn, StepFits, CallFits, isStray, holdsStray}
 use Rattle.combine.proofs.Stretches.{runOn}
 use Rattle.combine.proofs.Checked.{checked-fits}
 
@@ -110,12 +111,12 @@ products :
     × (dotOf false (pair 3 65534 ∷ []) ≡ minus 12)
     × (dotOf true (pair 32768 32768 ∷ pair 65535 32767 ∷ []) ≡ pos 1073709057)
     × (dotOf true [] ≡ pos 0)
-unfolding dotOf productOf readOf signedOf
+unfolding dotOf productOf readOf remainderOf lowBits signedOf
 products = (refl, refl, refl, refl)
 
 -- it is not reduced to 40 bits: 512 squares of -32,768 are 2^40 in fractional mode
 unlimited : dotOf false (replicate 512 (pair 32768 32768)) ≡ pos (2 ^ 40)
-unfolding dotOf productOf readOf signedOf
+unfolding dotOf productOf readOf remainderOf lowBits signedOf
 unlimited = refl
 
 -- ---- calls
@@ -262,37 +263,30 @@ unfolding opened
 second-steps zero l = record { kind = λ e. refl; word = refl; flag = λ e. never e }
 second-steps (suc i) l = absurd (omega arith)
 
--- a call of n steps, each of which fits
-by-steps : (mode : ℕ) (x : BoardCall) (n : ℕ) → ranOn x .steps ≡ n → ((i : ℕ) → i < n → fits mode x i) → modeOf mode .unsigned ≡ false
-    → x .state .core .mode ≡ mode → x .state .core .a ≡ pos 0 → x .state .sa ≡ false → CallFits mode x
-by-steps mode x n is h signed word begun clear =
-    record {
-      signed = signed;
-      word = word;
-      start = begun;
-      clear = clear;
-      steps = rw is (each-listed (runOn x) (StepFits mode (programOf (x .file))) n h);
-    }
+-- the steps of a call of n steps, each of which fits
+by-steps : (mode : ℕ) (x : BoardCall) (n : ℕ) → ranOn x .steps ≡ n → ((i : ℕ) → i < n → fits mode x i)
+    → (t : Transition Engine) → List·Memᴰ t (stepsOn x) → StepFits mode (programOf (x .file)) t
+by-steps mode x n is h = rw is (each-listed (runOn x) (StepFits mode (programOf (x .file))) n h)
 
 pub first-fits : CallFits 0x81 (first 99)
 unfolding opened modeOf
-first-fits = by-steps 0x81 (first 99) 8 refl first-steps refl refl refl refl
+first-fits = record { signed = refl; word = refl; start = refl; clear = refl; steps = by-steps 0x81 (first 99) 8 refl first-steps }
 
 pub half-fits : CallFits 0x81 (first 5)
 unfolding opened modeOf
-half-fits = by-steps 0x81 (first 5) 5 refl (λ i l. first-steps i (omega arith)) refl refl refl refl
+half-fits = record { signed = refl; word = refl; start = refl; clear = refl; steps = by-steps 0x81 (first 5) 5 refl (λ i l. first-steps i (omega arith)) }
 
 pub second-fits : CallFits 0x81 second
 unfolding opened modeOf
-second-fits = by-steps 0x81 second 1 refl second-steps refl refl refl refl
+second-fits = record { signed = refl; word = refl; start = refl; clear = refl; steps = by-steps 0x81 second 1 refl second-steps }
 
 pub none-fits : CallFits 0x81 none
 unfolding opened modeOf
-none-fits = by-steps 0x81 none 0 refl (λ i l. absurd (omega arith)) refl refl refl refl
+none-fits = record { signed = refl; word = refl; start = refl; clear = refl; steps = by-steps 0x81 none 0 refl (λ i l. absurd (omega arith)) }
 
 pub around-fits : CallFits 0x72 around
 unfolding opened modeOf
-around-fits = by-steps 0x72 around 4 refl around-steps refl refl refl refl
+around-fits = record { signed = refl; word = refl; start = refl; clear = refl; steps = by-steps 0x72 around 4 refl around-steps }
 
 -- by the check of the program alone
 pub trapped-fits : CallFits 0x72 trapped
@@ -310,10 +304,14 @@ unchecked = (refl, refl)
 
 -- ---- why each premise
 
--- a run of p from A with this mode word, W4 and W5 both x: its A, with SA clear at the end, and the sum of its products
+-- a run of p from A with this mode word, W4 and W5 both x
+abbrev begun : List Operation → ℤ → ℕ → ℕ → BoardCall
+begun p a mode x = record { file = file p; settings = plain; state = start but inA a but by mode but reg 4 x but reg 5 x; memory = memory; budget = 9 }
+
+-- its A, with SA clear at the end, and the sum of its products
 abbrev Ends : List Operation → ℤ → ℕ → ℕ → ℤ → ℤ → Type 0
 Ends p a mode x left dot =
-    let run : BoardCall = record { file = file p; settings = plain; state = start but inA a but by mode but reg 4 x but reg 5 x; memory = memory; budget = 9 } in
+    let run = begun p a mode x in
     (ranOn run .machine .state .core .a ≡ left) × (ranOn run .machine .state .sa ≡ false) × (dotOf (modeOf mode .integer) (pairsOn run) ≡ dot)
 
 abbrev adding : Operation
@@ -328,3 +326,8 @@ differ :
     × Ends (adding ∷ adding ∷ ClearSaturation ∷ []) (pos 0) 0x81 32768 (pos (2 ^ 31 - 1)) (pos (2 ^ 31))
 unfolding opened dotOf productOf readOf signedOf modeOf
 differ = ((refl, refl, refl), (refl, refl, refl), (refl, refl, refl), (refl, refl, refl), (refl, refl, refl))
+
+-- the last of them does not fit: its third step clears SA, which was set
+cleared : fits 0x81 (begun (adding ∷ adding ∷ ClearSaturation ∷ []) (pos 0) 0x81 32768) 2 → ⊥
+unfolding opened dotOf productOf readOf signedOf modeOf
+cleared h = never (h .flag refl)

@@ -91,13 +91,14 @@ refusals :
     (combined (three (pos 1) (pos 2) (pos 3)) 0 0x01 ≡ Refused 13)
     × (combined (three (pos (2 ^ 39)) (pos 0) (pos 0)) 1 0x04 ≡ Refused 13)
     × (combined (replicate 8 (board (pos (2 ^ 39)) false)) 9 0x01 ≡ Refused 13)
+    × (combined (replicate 8 (board (pos 1) false)) 9 0x01 ≡ Refused 13)
     × (combined (three (pos 0) (pos (2 ^ 39)) (pos 0)) 2 0x04 ≡ Refused 14)
     × (combined (three (minus (2 ^ 39 + 1)) (pos 0) (pos 0)) 2 0x01 ≡ Refused 14)
     × (combined (three (pos 0) (pos 0) (pos (2 ^ 39))) 2 0x04 ≡ Refused 7)
     × (combined (three (pos 0) (pos 0) (pos (2 ^ 39))) 2 0x3001 ≡ Refused 7)
     × (combined (three (minus (2 ^ 39)) (pos (2 ^ 39 - 1)) (pos (2 ^ 39))) 2 0x01 ≡ sum (minus 1) false false)
 unfolding combined
-refusals = (refl, refl, refl, refl, refl, refl, refl, refl)
+refusals = (refl, refl, refl, refl, refl, refl, refl, refl, refl)
 
 -- ---- what the contract says of these calls
 

@@ -325,17 +325,19 @@ others =
     ∷ bare Movsac B 0 0 NoBack ∷ AddAccumulators A ∷ Subtract B ∷ Negate A ∷ Lac B 14 (Direct 11) ∷ Add A 15 (Pointed 11 Increment)
     ∷ Literal 11 24 ∷ Load 11 11 Stays ∷ Store 11 11 Increment ∷ Repeat 25 ∷ RepeatRegister 11 ∷ Do 24 25 ∷ DoRegister 11 25 ∷ EndEarly ∷ []
 
--- first, last, alone; after an operation that traps, so that it is not reached; none
+-- first, last, alone; with a write-back of either form; after an operation that traps, so that it is not reached; none
 barred-anywhere :
     (holdsBarred (Shift A 0 ∷ others) ≡ true)
     × (holdsBarred (Negate A ∷ Negate B ∷ SetMode 0 ∷ []) ≡ true)
     × (holdsBarred (ClearSaturation ∷ []) ≡ true)
+    × (holdsBarred (Negate A ∷ bare Movsac B 0 0 ToRegister ∷ []) ≡ true)
+    × (holdsBarred (Negate A ∷ bare Clr B 0 0 ToMemory ∷ []) ≡ true)
     × (holdsBarred (Load 0 0 Stays ∷ Sac A 8 (Direct 0) ∷ []) ≡ true)
     × (engine (Load 0 0 Stays ∷ Sac A 8 (Direct 0) ∷ []) plain 9 start memory .steps ≡ 0)
     × (holdsBarred others ≡ false)
     × (holdsBarred [] ≡ false)
 unfolding engine holds isBarred encodeOf
-barred-anywhere = (refl, refl, refl, refl, refl, refl, refl)
+barred-anywhere = (refl, refl, refl, refl, refl, refl, refl, refl, refl)
 
 -- SATA alone, SATB alone, both; neither, with no bit at all and with every other bit of a good mode word
 saturating :

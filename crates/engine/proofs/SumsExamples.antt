@@ -19,10 +19,12 @@ use Rattle.state.specs.declared.state.Core.{Core}
 use Rattle.state.specs.declared.state.State.{State}
 use Rattle.state.proofs.Made.{_but_, reg, inA, inB, at, by, flags}
 use Rattle.effects.specs.declared.access.Place.the-variants.{Nowhere, Register}
+use Rattle.machine.proofs.CallExamples.{file, refused}
 use Rattle.engine.specs.Run.{isLeft, Result}
 use Rattle.engine.specs.Run.Stop.{ended, left}
 use Rattle.engine.specs.Engine.{Engine}
 use Rattle.engine.specs.Ledger.{Entry, Ledger}
+use Rattle.engine.specs.Call.{Runs}
 use Rattle.engine.specs.Exact.{FlagsClear, NeverLeft, wordIn, storedAt, ExactSums}
 use Rattle.engine.specs.declared.ending.Ending.{Ending}
 use Rattle.engine.specs.declared.ending.Ending.the-variants.{Done, Spent, Trap}
@@ -169,3 +171,10 @@ standing = record { state = start but reg 3 9 but reg 5 8; memory = memory }
 stands : (wordIn standing (Register 3) ≡ 9) × (wordIn standing (word 5) ≡ 105) × (wordIn standing Nowhere ≡ 0)
 unfolding wordIn
 stands = (refl, refl, refl)
+
+-- ---- the state that a call returns
+
+-- a spent run of a file of three operations does not return pc 4: the refusal of such a state is 7, and that of what a call returns is 0
+again-said : Runs file plain start memory 1 (record { ending = Spent; state = start but at 4; steps = 1 }) memory → _≡_ {A = ℕ} 7 0
+unfolding refused
+again-said h = h .again refl

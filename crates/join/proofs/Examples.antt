@@ -17,7 +17,7 @@ use Rattle.program.specs.File.{operationCount, fileRefusal}
 use Rattle.program.specs.Write.{fileOf}
 use Rattle.program.specs.declared.answer.Answer.the-variants.{Written, Refused as AnswerRefused}
 use Rattle.program.specs.declared.answer.Refusal.the-variants.{Together}
-use Rattle.state.specs.State.{noLoops, restartedState}
+use Rattle.state.specs.State.{noLoops, resetState, restartedState}
 use Rattle.state.specs.declared.settings.Settings.{Settings}
 use Rattle.state.specs.declared.state.State.{State}
 use Rattle.state.proofs.Made.{slots, _but_, reg, inA, inB, at, due, by, flags, one}
@@ -43,8 +43,9 @@ unfoldable call : List ℕ → Settings → State → List ℕ → ℕ → Resul
 unfolding runOf refused fileOf engine
 call first settings s m budget = runOf first settings s m budget
 
+-- resetState, which it does not come to, for must-fail/begun_from_reset
 unfoldable both : List ℕ → List ℕ → Settings → State → List ℕ → ℕ → Result Engine
-unfolding runsBoth restartedState call
+unfolding runsBoth resetState restartedState call
 both first second settings s m budget = runsBoth first second settings s m budget
 
 -- 13 ADD of W0, which adds 65,536 × W0
@@ -217,6 +218,18 @@ joins :
     × (joinRefusal (early 62) (early 2) 1024 ≡ 0)
 unfolding call joinRefusal joinedFile joinedBytes joined movedOperation
 joins = (refl, refl, refl, refl, refl, refl, refl)
+
+-- a first of 4,032 operations and a second of three whose sum is off: 2, and not 9
+two-before-nine : (first : List ℕ) (room : ℕ) → fileRefusal first ≡ 0 → operationCount first ≡ 4032
+    → _≡_ {A = ℕ × ℕ} (operationCount first, joinRefusal first unsummed room) (4032, 2)
+unfolding call joinRefusal
+two-before-nine first room e count = rw (e, count) refl
+
+-- a second of five, and room one byte short of the 65 blocks that 4,037 operations would take: 9, and not 8
+nine-before-eight : (first : List ℕ) → fileRefusal first ≡ 0 → operationCount first ≡ 4032 → length (joinedFile first (file closing)) ≡ 33280
+    → _≡_ {A = ℕ × ℕ × ℕ} (operationCount first, length (joinedFile first (file closing)), joinRefusal first (file closing) 33279) (4032, 33280, 9)
+unfolding call joinRefusal
+nine-before-eight first e count size = rw (e, count, size) refl
 
 -- 4,032 operations together are joined, 4,033 are not
 most : (togetherRefusal 4032 ≡ 0) × (togetherRefusal 4033 ≡ 9)

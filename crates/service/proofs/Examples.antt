@@ -4,13 +4,14 @@ use mathlib.Core.Path.{_≡_, refl, _∙_}
 use native.Mathlib.Omega.{arith}
 use lib.Dec.{lit<}
 use mathlib.Core.Bool.{Bool, true, false}
-use mathlib.Core.List.{List, [], _∷_, map}
+use mathlib.Core.List.{List, [], _∷_, _++_, map}
 use lib.IntN.{ℤ, pos, negℤ}
 use lib.ListN.{set, replicate, length-set}
 use Rattle.integers.specs.Range.{lowest, highest, outside}
 use Rattle.accumulator.specs.Mode.{isGoodMode, modeOf}
 use Rattle.accumulator.specs.Limit.{isAccumulator}
 use Rattle.accumulator.specs.declared.mode.Target.the-variants.{A}
+use Rattle.operations.specs.Encode.{encodeOf}
 use Rattle.operations.specs.Listed.{isListed}
 use Rattle.operations.specs.declared.operation.PostModification.the-variants.{None as Stays, Increment}
 use Rattle.operations.specs.declared.operation.Operand.the-variants.{Register as Direct, Memory as Pointed}
@@ -18,8 +19,9 @@ use Rattle.operations.specs.declared.operation.Operation.{Operation}
 use Rattle.operations.specs.declared.operation.Operation.the-variants.{Add, SacR, Literal, Load, Repeat, Do}
 use Rattle.program.specs.File.{blocksRefusal, fileRefusal}
 use Rattle.program.specs.Placement.{isPlaced}
+use Rattle.program.specs.Write.{fileOf}
 use Rattle.state.specs.Settings.{plainSettings}
-use Rattle.state.specs.State.{noLoops, restartedState}
+use Rattle.state.specs.State.{noLoops, resetState, restartedState}
 use Rattle.state.specs.Accept.{areLoops, isRepeatLeft, isState, stateRefusal}
 use Rattle.state.specs.declared.settings.Settings.{Settings}
 use Rattle.state.specs.declared.state.Core.{Core}
@@ -30,18 +32,20 @@ use Rattle.machine.specs.Control.{controlOf}
 use Rattle.machine.specs.Step.{operationAt}
 use Rattle.machine.proofs.Words.{IsWord, set-words}
 use Rattle.machine.specs.Single.{callRefusal}
+use Rattle.machine.proofs.CallExamples.{refused}
 use Rattle.engine.specs.Ending.{codeOf}
-use Rattle.engine.specs.Run.{Stop}
+use Rattle.engine.specs.Run.{Stop, Result}
 use Rattle.engine.specs.Run.Stop.{ended, left}
 use Rattle.engine.specs.Engine.{Engine}
-use Rattle.engine.specs.Ledger.{Entry}
+use Rattle.engine.specs.Ledger.{Entry, Ledger}
+use Rattle.engine.specs.Call.{runOf}
 use Rattle.engine.specs.Holds.{holds}
 use Rattle.engine.proofs.Opened.{engine, exact as exactRuns}
 use Rattle.engine.specs.declared.ending.Ending.the-variants.{Done, Spent, Trap}
-use Rattle.service.specs.Service.{Bag, onward, engineOf, firstBefore, Served, engineService, engineAfter, ledgerService}
-use Rattle.service.specs.Exact.{Sound, Every, Pairs, AsFar, ExactService}
+use Rattle.service.specs.Service.{Bag, onward, engineOf, firstBefore, Served, engineService, engineAfter, callService, ledgerService}
+use Rattle.service.specs.Exact.{Sound, Every, Pairs, AsFar, NoneLeft, ExactService}
 use Rattle.service.specs.Bags.{Schedule, scheduleOf, filled, firstBags, bagsOf}
-use Rattle.service.specs.Call.{isEnough, serviceRefusal, codeIn}
+use Rattle.service.specs.Call.{isEnough, serviceRefusal, codeIn, ServedUpTo}
 use Rattle.service.proofs.Services.{accepted-begins, exact-service}
 use Rattle.state.proofs.Parts.{zeros}
 
@@ -78,8 +82,9 @@ pub record Told : Type 0 where
 abbrev tells : Stop → ℕ → State → List ℕ → List Entry → Told
 tells e k s memory l = record { stop = e; steps = k; core = s .core; memory = memory; stores = l }
 
+-- the ledger's service, opened likewise; resetState, which it does not come to, for must-fail/ledger_from_reset_each_bag
 exact : List Operation → Settings → Engine → List Bag → List Told
-unfolding ledgerService restartedState plainSettings exactRuns
+unfolding ledgerService resetState restartedState plainSettings exactRuns
 exact p settings x bags =
     map
     (λ v.
@@ -226,6 +231,12 @@ after-left :
 unfolding service
 after-left = (refl, refl, refl)
 
+-- by the theorem SA after the last bag, which is set, would be clear if no bag had left the limits
+left-told : (vs : List (Result Ledger))
+    → ExactService weigh (plainSettings 2) (begun (nearly 40)) (service weigh (plainSettings 2) (begun (nearly 40)) full) vs → NoneLeft vs → true ≡ false
+unfolding service
+left-told vs h none = h .flags .1 none .sa
+
 -- the ledger's service ends with the second bag, stopped before its sixth step: the first word was added, the second left the limits
 left-once-exact :
     exact weigh (plainSettings 2) (begun (nearly 40)) full
@@ -313,6 +324,30 @@ other-program = (refl, refl, refl, refl)
 codes : map codeIn (ended Done ∷ ended Spent ∷ ended (Trap 6) ∷ left ∷ []) ≡ 0x00 ∷ 0x10 ∷ 0x26 ∷ 0x40 ∷ []
 unfolding codeOf
 codes = refl
+
+-- ---- what the contract says of endings and steps
+
+-- the file of a program
+abbrev encoded : List Operation → List ℕ
+encoded [] = []
+encoded (o ∷ p) = encodeOf o ++ encoded p
+
+-- the service by calls, with every definition that it comes to opened
+calls : Engine → List Bag → List Served
+unfolding callService restartedState plainSettings runOf refused fileOf engine
+calls x bags = callService (fileOf (encoded weigh)) (plainSettings 2) x bags
+
+-- the three bags of `three` as lent slices; the third has the words of the second once more
+abbrev three-lent : Schedule
+three-lent =
+    scheduleOf (record { first = record { 0 = 0 }; size = 2 }) (100 ∷ 4 ∷ 100 ∷ []) (true ∷ true ∷ false ∷ []) (10 ∷ 20 ∷ 1 ∷ 2 ∷ 1 ∷ 2 ∷ [])
+
+-- done, spent, done after 7, 4 and 3 steps; what lies past them in the slices stays
+three-told : (x : Engine) (endings steps : List ℕ)
+    → ServedUpTo (fileOf (encoded weigh)) (plainSettings 2) (begun (pos 0)) three-lent (9 ∷ 9 ∷ 9 ∷ 9 ∷ []) (9 ∷ 9 ∷ 9 ∷ 9 ∷ []) 3 x endings steps
+    → (endings ≡ 0x00 ∷ 0x10 ∷ 0x00 ∷ 9 ∷ []) × (steps ≡ 7 ∷ 4 ∷ 3 ∷ 9 ∷ [])
+unfolding calls firstBags codeOf
+three-told x endings steps h = (h .ends, h .counts)
 
 -- ---- the theorem's premises are met
 
