@@ -64,13 +64,15 @@ sums : (addressSum 0xfffe 4 ≡ 2) × (steppedOf 0xfffe (pos 4) ≡ 2) × (stepp
 unfolding addressSum steppedOf lowBits remainderOf
 sums = (refl, refl, refl)
 
--- below S; a sum that is E itself; corrected once, and still above E
+-- below S; a sum that is E itself; corrected once, and still above E; from E and from S themselves
 corrected :
     (circularOf (bytes 0x1100 0x1107) 0x1102 (minus 4) ≡ 0x1106)
     × (circularOf (bytes 0x1100 0x1107) 0x1105 (pos 2) ≡ 0x1107)
     × (circularOf (bytes 0x1100 0x1105) 0x1104 (pos 14) ≡ 0x110c)
+    × (circularOf (bytes 0x1100 0x1107) 0x1107 (pos 2) ≡ 0x1101)
+    × (circularOf (bytes 0x1100 0x1107) 0x1100 (minus 2) ≡ 0x1106)
 unfolding circularOf correctedOf lowBits remainderOf
-corrected = (refl, refl, refl)
+corrected = (refl, refl, refl, refl, refl)
 
 -- an old address outside, above and below, is never corrected
 outside :

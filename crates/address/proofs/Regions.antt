@@ -1,11 +1,12 @@
--- An access has no trap exactly where its address is that of a word of the region: both directions, by the tests of the definition. Assumes nothing.
+-- An access has no trap exactly where its address is that of a word of the region: both directions, by the tests of the definition; its trap is at most 2.
+-- Assumes nothing.
 use mathlib.Core.Path.{_≡_, refl, sym}
 use mathlib.Core.Bool.{Bool, true, false, cond, _&&_}
 use Prim.Native.Nat.{ℕ, _%_, _≤_, _<_}
 use native.Mathlib.Omega.{arith}
 use borrow.Author.Tests.{leb-true, ltb-true, eqb-false, le-leb, lt-ltb, ne-eqb}
-use lib.Dec.{leb, ltb, eqb}
-use Rattle.integers.proofs.Whole.{both}
+use lib.Dec.{leb, ltb, eqb, lit≤}
+use Rattle.integers.proofs.Whole.{both, by-test}
 use Rattle.address.specs.declared.region.Region.{Region}
 use Rattle.address.specs.Word.{addressOf, wordOf}
 use Rattle.address.specs.Region.{isInside, accessTrap}
@@ -37,3 +38,9 @@ free-word region a e =
     let inside = both (leb (addressOf 0) a) (leb (region .first .0) i && ltb i (region .end .0)) (zero-first (isInside region a) (t .1)) in
     let part = both (leb (region .first .0) i) (ltb i (region .end .0)) (inside .1) in
     (sym (address-word a (leb-true (addressOf 0) a (inside .0)) even), leb-true (region .first .0) i (part .0), ltb-true i (region .end .0) (part .1))
+
+-- 1, 2 or none
+pub access-most : (region : Region) (a : ℕ) → accessTrap region a ≤ 2
+unfolding accessTrap
+access-most region a =
+    by-test (λ (n : ℕ). n ≤ 2) (eqb (a % 2) 1) (λ e. lit≤ tt) (λ e. by-test (λ (n : ℕ). n ≤ 2) (isInside region a) (λ f. lit≤ tt) (λ f. lit≤ tt))

@@ -3,6 +3,7 @@ use address::word::WordIndex;
 use libc::STDIN_FILENO;
 use libc::STDOUT_FILENO;
 use lines::line;
+use lines::line::Notice;
 use service::call::ServiceOutcome;
 use service::call::Window;
 use service::call::serve;
@@ -39,15 +40,11 @@ fn print_start(text: [u8; LINE], size: usize)
     io::write_all(STDOUT_FILENO, &text[0..size]);
 }
 
-// The last line of a stream that breaks off.
-fn short() -> bool {
-    io::write_all(STDOUT_FILENO, b"short\n");
-    false
-}
-
-// The last line of a stream that asks for too much.
-fn too_large() -> bool {
-    io::write_all(STDOUT_FILENO, b"toolarge\n");
+// The last line of a stream that breaks off or asks for too much.
+fn stop(notice: Notice) -> bool {
+    let mut text = [0u8; LINE];
+    let n = line::notice_line(&mut text, notice);
+    print_start(text, n);
     false
 }
 
@@ -268,16 +265,16 @@ fn most_bags(sizes: Sizes) -> usize
 // The bags and the answer, unless the bags are too many; false where the program ends.
 fn bags(head: [u8; 320], file: &[u8], memory: &mut [u16], sizes: Sizes) -> bool {
     if BAGS < most_bags(sizes) {
-        return too_large();
+        return stop(Notice::TooLarge);
     }
     if WORDS < sizes.words {
-        return too_large();
+        return stop(Notice::TooLarge);
     }
     let mut budgets = [0u32; BAGS];
     let mut restarts = [false; BAGS];
     let mut words = [0u16; WORDS];
     if !read_lists(sizes, &mut budgets, &mut restarts, &mut words) {
-        return short();
+        return stop(Notice::Short);
     }
     let mut endings = [0u8; BAGS];
     let mut steps = [0u32; BAGS];
@@ -315,7 +312,7 @@ fn rest(head: [u8; 320], file: &mut [u8], memory: &mut [u16]) -> bool
 {
     let mut numbers = [0u32; 7];
     if !read_first(file, memory, &mut numbers) {
-        return short();
+        return stop(Notice::Short);
     }
     bags(head, file, memory, sizes_of(numbers))
 }
@@ -340,10 +337,10 @@ fn after_header(head: [u8; 320]) -> bool {
     let size = header::file_size(head);
     let count = header::memory_words(head);
     if FILE < size {
-        return too_large();
+        return stop(Notice::TooLarge);
     }
     if MEMORY < count {
-        return too_large();
+        return stop(Notice::TooLarge);
     }
     let mut file = [0u8; FILE];
     let mut memory = [0u16; MEMORY];
@@ -358,7 +355,7 @@ fn service() -> bool {
         return false;
     }
     if got < 112 {
-        return short();
+        return stop(Notice::Short);
     }
     after_header(head)
 }

@@ -9,6 +9,7 @@ use join::call::join;
 use libc::STDIN_FILENO;
 use libc::STDOUT_FILENO;
 use lines::line;
+use lines::line::Notice;
 use lines::line::Verb;
 use program::answer::Answer;
 use program::file::load;
@@ -39,6 +40,13 @@ fn print_start(text: [u8; LINE], size: usize)
     io::write_all(STDOUT_FILENO, &text[0..size]);
 }
 
+// The line of a case that has no answer.
+fn print_notice(notice: Notice) {
+    let mut text = [0u8; LINE];
+    let n = line::notice_line(&mut text, notice);
+    print_start(text, n);
+}
+
 // The line of a run, which has more fields in the long form.
 fn print_run(what: u8, outcome: Outcome, memory: &[u16]) {
     let mut text = [0u8; LINE];
@@ -59,7 +67,7 @@ fn answer_run(head: [u8; 320], file: &[u8], bytes: &[u8], memory: &mut [u16])
     let settings = header::settings(head);
     let state = header::state(head);
     let outcome = run(file, settings, state, memory, header::budget(head));
-    print_run(head[111], outcome, memory);
+    print_run(header::what(head), outcome, memory);
 }
 
 // What stands in the lent slice before a load, a write or a join.
@@ -116,7 +124,7 @@ fn combined(boards: [Board; 8], count: usize, mode: u16) -> Combined
 fn answer_combine(head: [u8; 320], file: &[u8]) {
     let count = header::budget(head) as usize;
     if file.len() != 9 * count {
-        io::write_all(STDOUT_FILENO, b"short\n");
+        print_notice(Notice::Short);
         return;
     }
     let answer = combined(boards(file, count), count, header::mode_word(head));
@@ -137,7 +145,7 @@ fn is_run(what: u8) -> bool {
 
 // The bytes of lent output: R of a load, a write or a join, none of the others.
 fn room(head: [u8; 320]) -> usize {
-    let what = head[111];
+    let what = header::what(head);
     if is_filled(what) {
         header::budget(head) as usize
     } else if what == JOIN {
@@ -158,7 +166,7 @@ fn answer(
 )
     requires { ⌜ 2 * length (now memory) ≤ length (now bytes) ⌝ }
 {
-    let what = head[111];
+    let what = header::what(head);
     if is_filled(what) {
         answer_filled(what, file, out);
     } else if is_run(what) {
@@ -168,13 +176,13 @@ fn answer(
     } else if what == COMBINE {
         answer_combine(head, file);
     } else {
-        io::write_all(STDOUT_FILENO, b"unknown\n");
+        print_notice(Notice::Unknown);
     }
 }
 
 // The last line of a stream that breaks off or asks for too much.
-fn stop(text: &[u8]) -> bool {
-    io::write_all(STDOUT_FILENO, text);
+fn stop(notice: Notice) -> bool {
+    print_notice(notice);
     false
 }
 
@@ -207,7 +215,7 @@ fn rest(
     requires { ⌜ 2 * length (now memory) ≤ length (now bytes) ⌝ }
 {
     if !read_parts(file, second, bytes) {
-        return stop(b"short\n");
+        return stop(Notice::Short);
     }
     answer(head, file, second, bytes, memory, out);
     true
@@ -227,19 +235,19 @@ fn after_header(
     let m = header::memory_words(head);
     let r = room(head);
     if file.len() < f {
-        return stop(b"toolarge\n");
+        return stop(Notice::TooLarge);
     }
     if second.len() < g {
-        return stop(b"toolarge\n");
+        return stop(Notice::TooLarge);
     }
     if memory.len() < m {
-        return stop(b"toolarge\n");
+        return stop(Notice::TooLarge);
     }
     if bytes.len() < 2 * m {
-        return stop(b"toolarge\n");
+        return stop(Notice::TooLarge);
     }
     if out.len() < r {
-        return stop(b"toolarge\n");
+        return stop(Notice::TooLarge);
     }
     rest(
         head,
@@ -280,8 +288,8 @@ fn case(
     if got == 0 {
         return false;
     }
-    if got < header_size(head[111]) {
-        return stop(b"short\n");
+    if got < header_size(header::what(head)) {
+        return stop(Notice::Short);
     }
     after_header(head, file, second, bytes, memory, out)
 }

@@ -31,7 +31,7 @@ pub fn add_accumulators(target: Target, s: Scalars) -> Effect
 }
 
 // The difference of two accumulators.
-fn difference(x: i64, y: i64) -> i64
+fn accumulator_difference(x: i64, y: i64) -> i64
     requires { ⌜ isAccumulator x ≡ true ⌝ }
     requires { ⌜ isAccumulator y ≡ true ⌝ }
     ensures { λ r. ⌜ r ≡ x -ℤ y ⌝ }
@@ -45,7 +45,7 @@ pub fn subtract(target: Target, s: Scalars) -> Effect
     requires { ⌜ isAccumulator (s .b) ≡ true ⌝ }
     ensures { λ r. ⌜ ((w starts passes : List ℕ) → workIn w r ≡ results w target (accumulatorOf (coreOf w starts passes s) target -ℤ accumulatorOf (coreOf w starts passes s) (otherOf target))) ⌝ }
 {
-    let r = difference(s.value(target), s.value(other(target)));
+    let r = accumulator_difference(s.value(target), s.value(other(target)));
     results(target, r)
 }
 

@@ -75,7 +75,7 @@ fn plus(v: i64, p: i64) -> i64
 }
 
 // An accumulator less a product.
-fn minus(v: i64, p: i64) -> i64
+fn less(v: i64, p: i64) -> i64
     requires { ⌜ isAccumulator v ≡ true ⌝ }
     requires { ⌜ natAbs p ≤ 65535 * 65535 * 2 ⌝ }
     ensures { λ r. ⌜ r ≡ v -ℤ p ⌝ }
@@ -104,7 +104,7 @@ fn mac_exact(mode: Mode, k: MacClass, s: Scalars, w: &[u16; 14]) -> Exact
         },
         Action::Msc => Exact::Replace {
             target,
-            r: minus(v, mac_product(mode, k, w)),
+            r: less(v, mac_product(mode, k, w)),
         },
         Action::Ed => Exact::Replace {
             target,

@@ -14,9 +14,9 @@ use Rattle.state.specs.declared.settings.Settings.{Settings}
 use Rattle.state.specs.declared.state.State.{State}
 use Rattle.machine.specs.Single.{callRefusal}
 use Rattle.machine.proofs.Order.{withSums}
-use Rattle.machine.proofs.Calls.{call-file, call-settings, call-state, if-refused}
+use Rattle.machine.proofs.Calls.{call-file, call-settings, call-state, call-most, if-refused}
 use Rattle.machine.proofs.Stands.{accepted-stands, stands-accepted}
-use Rattle.engine.specs.Ending.{numberOf, decimalOf, filledTo, nameOf}
+use Rattle.engine.specs.Ending.{isRunEnding, numberOf, decimalOf, filledTo, nameOf}
 use Rattle.engine.specs.Run.{Result}
 use Rattle.engine.specs.Run.Stop.{ended}
 use Rattle.engine.specs.Engine.{Engine, engineDone, engineTurn, engineRun}
@@ -29,16 +29,18 @@ use Rattle.engine.proofs.Runs.{run-within}
 use Rattle.engine.proofs.Sums.{exact-sums}
 use Rattle.engine.proofs.Overflow.{wraps}
 use Rattle.engine.proofs.Fits.{Fit, run-fits, file-listed}
+use Rattle.engine.proofs.Endings.{one-to-seven, isRunStop, run-ends}
 
 module _ (file : List ℕ) (settings : Settings) (s : State) (memory : List ℕ) (budget : ℕ) where
   pub call-refused : (n : ℕ) → n ≡ callRefusal file settings s (length memory) → (n ≡ 0 → ⊥)
       → Runs file settings s memory budget (record { ending = Refused n; state = s; steps = 0 }) memory
-  unfolding runOf
+  unfolding runOf isRunEnding
   call-refused n e h =
       let is : refused n s memory ≡ runOf file settings s memory budget =
       rw (sym e) (if-refused n (engineRun (programOf file) settings budget s memory) (refused n s memory) h) in
       record {
         runs = is;
+        ends = one-to-seven n h (rw e (call-most file settings s (length memory)));
         name = ap (λ (x : Result Engine). stopName (x .stop)) is;
         number = ap (λ (x : Result Engine). stopNumber (x .stop)) is;
         within = omega arith;
@@ -80,6 +82,8 @@ module _ (file : List ℕ) (settings : Settings) (s : State) (memory : List ℕ)
       let same : resultOf r after ≡ runOf file settings s memory budget = rw none is in
       record {
         runs = same;
+        ends =
+            ap (λ (x : Result Engine). isRunStop (x .stop)) is ∙ run-ends (programOf file) (file-listed file accepted) settings budget s memory;
         name = ap (λ (x : Result Engine). stopName (x .stop)) same;
         number = ap (λ (x : Result Engine). stopNumber (x .stop)) same;
         within = rw (ap (λ (x : Result Engine). x .steps) is) run-steps;

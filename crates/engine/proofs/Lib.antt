@@ -20,4 +20,5 @@ pub mod Onward
 pub mod Fits
 pub mod Steps
 pub mod Along
+pub mod Endings
 pub mod Calls

@@ -1,8 +1,16 @@
--- The names of endings in ASCII, written out by hand, and their numbers and codes. Assumes nothing.
+-- The endings of a run; the names of endings in ASCII, written out by hand, and their numbers and codes. Assumes nothing.
+use mathlib.Core.Bool.{true, false}
 use mathlib.Core.Path.{_≡_, refl}
 use mathlib.Core.List.{[], _∷_, map}
-use Rattle.engine.specs.Ending.{numberOf, decimalOf, nameOf, codeOf}
+use Rattle.engine.specs.Ending.{isRunEnding, numberOf, decimalOf, nameOf, codeOf}
 use Rattle.engine.specs.declared.ending.Ending.the-variants.{Done, Spent, Trap, Refused}
+
+-- done, spent, trap1, trap7, refused1, refused7; trap0, trap8, refused0, refused8 and refused15 end no run
+run-endings :
+    (map isRunEnding (Done ∷ Spent ∷ Trap 1 ∷ Trap 7 ∷ Refused 1 ∷ Refused 7 ∷ []) ≡ true ∷ true ∷ true ∷ true ∷ true ∷ true ∷ [])
+    × (map isRunEnding (Trap 0 ∷ Trap 8 ∷ Refused 0 ∷ Refused 8 ∷ Refused 15 ∷ []) ≡ false ∷ false ∷ false ∷ false ∷ false ∷ [])
+unfolding isRunEnding
+run-endings = (refl, refl)
 
 -- done, spent
 done-spent :

@@ -33,7 +33,7 @@ module _ {S : Type 0} (done : S → Bool) (turn : ℕ → S → Turn S) where
 
 -- Q of the budget left, the steps made, the machine and how a run from there ends holds where the run is done or spent, where its turn stops it, and where its
 -- turn goes on and it holds of the run from there
-pub record Passes {S : Type 0} (done : S → Bool) (turn : ℕ → S → Turn S) (Q : ℕ → ℕ → S → Result S → Type 0) : Type 0 where
+pub record ByTurns {S : Type 0} (done : S → Bool) (turn : ℕ → S → Turn S) (Q : ℕ → ℕ → S → Result S → Type 0) : Type 0 where
   pub at-done : (n k : ℕ) (s : S) → done s ≡ true → Q n k s (record { machine = s; steps = k; stop = ended Done })
   pub at-spent : (k : ℕ) (s : S) → done s ≡ false → Q 0 k s (record { machine = s; steps = k; stop = ended Spent })
   pub at-over : (n k : ℕ) (s : S) (e : Stop) → done s ≡ false → turn k s ≡ over e → Q (suc n) k s (record { machine = s; steps = k; stop = e })
@@ -42,7 +42,7 @@ pub record Passes {S : Type 0} (done : S → Bool) (turn : ℕ → S → Turn S)
   pub at-next :
       (n k : ℕ) (s s′ : S) → done s ≡ false → turn k s ≡ next s′ → Q n (suc k) s′ (run done turn n (suc k) s′) → Q (suc n) k s (run done turn n (suc k) s′)
 
-module _ {S : Type 0} (done : S → Bool) (turn : ℕ → S → Turn S) (Q : ℕ → ℕ → S → Result S → Type 0) (passes : Passes done turn Q) where
+module _ {S : Type 0} (done : S → Bool) (turn : ℕ → S → Turn S) (Q : ℕ → ℕ → S → Result S → Type 0) (passes : ByTurns done turn Q) where
   after-turn : (n k : ℕ) (s : S) (u : Turn S) → done s ≡ false → turn k s ≡ u → ((s′ : S) → Q n (suc k) s′ (run done turn n (suc k) s′))
       → Q (suc n) k s (after s k (run done turn n (suc k)) u)
   after-turn n k s (over e) d is on = passes .at-over n k s e d is
@@ -164,8 +164,8 @@ module _ {S T : Type 0} (R : S → T → Type 0) (Z : S → Type 0) (doneS : S �
     (step : (k : ℕ) (s : S) (t : T) → doneT t ≡ false → R s t → TurnsAlike R Z (turnS k s) (turnT k t))
     (stays : (k : ℕ) (s : S) → doneS s ≡ false → Z s → Keeps Z Z (turnS k s)) where
   -- the first's run from each machine in R with t is like the run y of the second
-  abbrev Alike : ℕ → ℕ → T → Result T → Type 0
-  Alike n k t y = (s : S) → R s t → AlikeUnless R Z (run doneS turnS n k s) y
+  abbrev LikeAll : ℕ → ℕ → T → Result T → Type 0
+  LikeAll n k t y = (s : S) → R s t → AlikeUnless R Z (run doneS turnS n k s) y
 
   -- a run whose turn steps into Z ends in it
   into-ends : (n k : ℕ) (s : S) (u : Turn S) → Into Z u → Z (after s k (run doneS turnS n (suc k)) u .machine)
@@ -173,7 +173,7 @@ module _ {S T : Type 0} (R : S → T → Type 0) (Z : S → Type 0) (doneS : S �
   into-ends n k s (last e s′) h = h
   into-ends n k s (next s′) h = run-keeps doneS turnS (λ k. Z) Z (λ k s z. z) stays n (suc k) s′ h
 
-  over-alike : (n k : ℕ) (t : T) (e : Stop) → doneT t ≡ false → turnT k t ≡ over e → Alike (suc n) k t (record { machine = t; steps = k; stop = e })
+  over-alike : (n k : ℕ) (t : T) (e : Stop) → doneT t ≡ false → turnT k t ≡ over e → LikeAll (suc n) k t (record { machine = t; steps = k; stop = e })
   over-alike n k t (ended e) d is s h =
       let u : turnS k s ≡ over (ended e) = subst (TurnsAlike R Z (turnS k s)) is (step k s t d h) in
       rw (run-turn doneS turnS n k s (over (ended e)) (same-done s t h ∙ d) u) (record { machines = h; steps = refl; stop = refl })
@@ -183,7 +183,7 @@ module _ {S T : Type 0} (R : S → T → Type 0) (Z : S → Type 0) (doneS : S �
   -- the law: a relation that the turns of two machines keep is kept by their runs
   pub run-alike : (n k : ℕ) (s : S) (t : T) → R s t → AlikeUnless R Z (run doneS turnS n k s) (run doneT turnT n k t)
   run-alike n k s t h =
-      by-run doneT turnT Alike
+      by-run doneT turnT LikeAll
       (record {
         at-done = λ n k t d s h. rw (run-done doneS turnS n k s (same-done s t h ∙ d)) (record { machines = h; steps = refl; stop = refl });
         at-spent = λ k t d s h. rw (run-spent doneS turnS k s (same-done s t h ∙ d)) (record { machines = h; steps = refl; stop = refl });

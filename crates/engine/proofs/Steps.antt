@@ -85,31 +85,31 @@ module _ {S : Type 0} (done : S → Bool) (turn : S → Turn S) where
       })
 
   -- under a budget of the steps that it makes, a run ends on the same machine
-  abbrev Settled : ℕ → ℕ → S → Result S → Type 0
-  Settled n k s r = (j : ℕ) → r .steps ≡ k + j → from j k s .machine ≡ r .machine
+  abbrev EndsSame : ℕ → ℕ → S → Result S → Type 0
+  EndsSame n k s r = (j : ℕ) → r .steps ≡ k + j → from j k s .machine ≡ r .machine
 
   -- with no step made
-  none-settled : (k : ℕ) (s : S) → done s ≡ false → (j : ℕ) → k ≡ k + j → from j k s .machine ≡ s
-  none-settled k s d zero l = ap (λ (r : Result S). r .machine) (run-spent done (λ i. turn) k s d)
-  none-settled k s d (suc j) l = absurd (omega arith)
+  none-same : (k : ℕ) (s : S) → done s ≡ false → (j : ℕ) → k ≡ k + j → from j k s .machine ≡ s
+  none-same k s d zero l = ap (λ (r : Result S). r .machine) (run-spent done (λ i. turn) k s d)
+  none-same k s d (suc j) l = absurd (omega arith)
 
-  last-settled : (n k : ℕ) (s s′ : S) (e : Ending) → done s ≡ false → turn s ≡ last e s′ → Settled (suc n) k s (record { machine = s′; steps = suc k; stop = ended e })
-  last-settled n k s s′ e d is zero l = absurd (omega arith)
-  last-settled n k s s′ e d is (suc j) l = ap (λ (r : Result S). r .machine) (run-turn done (λ i. turn) j k s (last e s′) d is)
+  last-same : (n k : ℕ) (s s′ : S) (e : Ending) → done s ≡ false → turn s ≡ last e s′ → EndsSame (suc n) k s (record { machine = s′; steps = suc k; stop = ended e })
+  last-same n k s s′ e d is zero l = absurd (omega arith)
+  last-same n k s s′ e d is (suc j) l = ap (λ (r : Result S). r .machine) (run-turn done (λ i. turn) j k s (last e s′) d is)
 
-  next-settled : (n k : ℕ) (s s′ : S) → done s ≡ false → turn s ≡ next s′ → Settled n (suc k) s′ (from n (suc k) s′) → Settled (suc n) k s (from n (suc k) s′)
-  next-settled n k s s′ d is on zero l = let c : suc k ≤ from n (suc k) s′ .steps = run-counts done (λ i. turn) n (suc k) s′ in absurd (omega arith)
-  next-settled n k s s′ d is on (suc j) l = ap (λ (r : Result S). r .machine) (run-turn done (λ i. turn) j k s (next s′) d is) ∙ on j (omega arith)
+  next-same : (n k : ℕ) (s s′ : S) → done s ≡ false → turn s ≡ next s′ → EndsSame n (suc k) s′ (from n (suc k) s′) → EndsSame (suc n) k s (from n (suc k) s′)
+  next-same n k s s′ d is on zero l = let c : suc k ≤ from n (suc k) s′ .steps = run-counts done (λ i. turn) n (suc k) s′ in absurd (omega arith)
+  next-same n k s s′ d is on (suc j) l = ap (λ (r : Result S). r .machine) (run-turn done (λ i. turn) j k s (next s′) d is) ∙ on j (omega arith)
 
-  run-settled : (n k : ℕ) (s : S) → Settled n k s (from n k s)
-  run-settled =
-      by-run done (λ i. turn) Settled
+  run-same : (n k : ℕ) (s : S) → EndsSame n k s (from n k s)
+  run-same =
+      by-run done (λ i. turn) EndsSame
       (record {
         at-done = λ n k s d j l. ap (λ (r : Result S). r .machine) (run-done done (λ i. turn) j k s d);
-        at-spent = λ k s d. none-settled k s d;
-        at-over = λ n k s e d is. none-settled k s d;
-        at-last = last-settled;
-        at-next = next-settled;
+        at-spent = λ k s d. none-same k s d;
+        at-over = λ n k s e d is. none-same k s d;
+        at-last = last-same;
+        at-next = next-same;
       })
 
 -- ---- the steps of a run
@@ -139,7 +139,7 @@ run-stepwise done turn start budget =
     record {
       begins = refl;
       leads = λ i l. run-step done turn budget 0 start i (omega arith);
-      ends = run-settled done turn budget 0 start k (omega arith);
+      ends = run-same done turn budget 0 start k (omega arith);
     }
 
 -- the call for a run, refused or not

@@ -1,6 +1,6 @@
 -- The call for a run: refused, or run; exact sums; exact even after overflow.
 use Prim.Native.Nat.{ℕ, _≤_}
-use mathlib.Core.Bool.{false}
+use mathlib.Core.Bool.{true, false}
 use mathlib.Core.List.{List, []}
 use mathlib.Core.Path.{_≡_}
 use lib.ListN.{length}
@@ -9,7 +9,7 @@ use Rattle.program.specs.File.{programOf}
 use Rattle.state.specs.declared.settings.Settings.{Settings}
 use Rattle.state.specs.declared.state.State.{State}
 use Rattle.machine.specs.Single.{callRefusal}
-use Rattle.engine.specs.Ending.{nameOf, numberOf}
+use Rattle.engine.specs.Ending.{isRunEnding, nameOf, numberOf}
 use Rattle.engine.specs.Run.{Stop, Result}
 use Rattle.engine.specs.Run.Stop.{ended, left}
 use Rattle.engine.specs.Engine.{Engine, engineRun}
@@ -33,11 +33,12 @@ runOf file settings s memory budget =
     let refusal = callRefusal file settings s (length memory) in
     ifAccepted refusal (engineRun (programOf file) settings budget s memory) (refused refusal s memory)
 
--- how a run stops, by the paper's name and number; "left" is the ledger's alone
+-- how a run stops, by the paper's name; "left" is the ledger's alone
 abbrev pub stopName : Stop → List ℕ
 stopName (ended e) = nameOf e
 stopName left = []
 
+-- its number by the paper; "left" has none: 0
 abbrev pub stopNumber : Stop → ℕ
 stopNumber (ended e) = numberOf e
 stopNumber left = 0
@@ -46,6 +47,8 @@ stopNumber left = 0
 pub record Runs (file : List ℕ) (settings : Settings) (s : State) (memory : List ℕ) (budget : ℕ) (r : Outcome) (after : List ℕ) : Type 0 where
   -- the refusal, or the run by the definition of stepping and ending
   pub runs : resultOf r after ≡ runOf file settings s memory budget
+  -- its ending is done, spent, trap1..trap7 or refused1..refused7
+  pub ends : isRunEnding (r .ending) ≡ true
   -- its ending by the paper's name and number
   pub name : nameOf (r .ending) ≡ stopName (runOf file settings s memory budget .stop)
   pub number : numberOf (r .ending) ≡ stopNumber (runOf file settings s memory budget .stop)

@@ -1,11 +1,18 @@
--- The names, numbers and codes of endings.
+-- The endings of a run; the names, numbers and codes of endings.
 use Prim.Native.Nat.{ℕ, _+_, _-_, _/_, _%_}
-use mathlib.Core.Bool.{cond}
+use mathlib.Core.Bool.{Bool, true, cond, _&&_}
 use mathlib.Core.List.{List, [], _∷_, _++_}
-use lib.Dec.{ltb}
+use lib.Dec.{ltb, leb}
 use lib.ListN.{length, replicate}
 use Rattle.engine.specs.declared.ending.Ending.{Ending}
 use Rattle.engine.specs.declared.ending.Ending.the-variants.{Done, Spent, Trap, Refused}
+
+-- a run ends done, spent, trap1..trap7 or refused1..refused7
+unfoldable pub isRunEnding : Ending → Bool
+isRunEnding Done = true
+isRunEnding Spent = true
+isRunEnding (Trap n) = leb 1 n && leb n 7
+isRunEnding (Refused n) = leb 1 n && leb n 7
 
 -- trap1..trap7, refused1..refused7; done and spent have no number
 unfoldable pub numberOf : Ending → ℕ

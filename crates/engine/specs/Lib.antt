@@ -1,5 +1,5 @@
 -- The engine in the order of document 01: "Stepping and ending" (endings, the run, the engine's run), "Ledger", what a program holds, demand 3
--- (exact sums), wish 12 (exact even after overflow), the call, and the table A to L.
+-- (exact sums), wish 12 (exact even after overflow), the call, the steps of a run (for wish 11), and the table A to L.
 pub mod Ending
 pub mod Run
 pub mod Engine

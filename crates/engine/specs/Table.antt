@@ -54,6 +54,7 @@ seen r =
 
 -- ---- where to look
 
+-- a flag as a number: 1 set, 0 clear
 abbrev pub bitOf : Bool → ℤ
 bitOf b = cond b (pos 1) (pos 0)
 
@@ -161,15 +162,19 @@ reversed8 = record { xwords = 200; traps = 0; x = noCircular; y = noCircular; re
 
 -- ---- the table
 
+-- MPY of W4 by itself to A
 abbrev squared : Operation
 squared = mac Mpy 4 4 NoRead 0 NoRead 0
 
+-- v in A, stored rounded to W3 by a mode word, is this word
 abbrev stored : ℤ → ℕ → ℤ → Row
 stored v mode word = row (SacR A 8 (Direct 3) ∷ []) (startOf (replicate 14 0) v (pos 0) mode) (lookAt 3) (word ∷ [])
 
+-- 2^39 - 1 plus 1, A + B to A by a mode word, is kept as v, with OA and SA set
 abbrev summed : ℕ → ℤ → Row
 summed mode v = row (AddAccumulators A ∷ []) (startOf (replicate 14 0) (pos (2 ^ 39 - 1)) (pos 1) mode) lookFlags (v ∷ pos 1 ∷ pos 1 ∷ [])
 
+-- two stores of W0 to memory at W8, form 2
 abbrev stores8 : List Operation
 stores8 = Store 0 8 Increment ∷ Store 0 8 Increment ∷ []
 

@@ -19,7 +19,8 @@ use Rattle.engine.specs.declared.outcome.Outcome.{Outcome}
 use Rattle.combine.specs.declared.call.Combined.the-variants.{Sum, Refused as SumRefused}
 use Rattle.text.specs.Text.{numberText, signedText, wordText}
 use Rattle.lines.specs.Line.{slotFields, sumFields, controlFields, stateFields, endingText, runFields, runLine, longRunLine, tallySums, tallyLine}
-use Rattle.lines.specs.Line.{stepText, stepLine, filledLine, combinedFields, combinedLine, serviceText, bagFields}
+use Rattle.lines.specs.Line.{stepText, stepLine, filledLine, combinedFields, combinedLine, noticeLine, serviceText, bagFields}
+use Rattle.lines.specs.declared.line.Notice.the-variants.{Short, TooLarge, Unknown}
 use Rattle.lines.specs.declared.line.Verb.the-variants.{Loaded, Wrote, Joined}
 
 -- ---- a state with another value in each field
@@ -208,6 +209,16 @@ combined = refl
 not-combined : combinedLine (SumRefused 13) ≡ 114 ∷ 101 ∷ 102 ∷ 117 ∷ 115 ∷ 101 ∷ 100 ∷ 49 ∷ 51 ∷ 10 ∷ []
 unfolding combinedLine endingText nameOf decimalOf
 not-combined = refl
+
+-- ---- cases without an answer
+
+-- `short\n`, `toolarge\n`, `unknown\n`
+notices :
+    (noticeLine Short ≡ 115 ∷ 104 ∷ 111 ∷ 114 ∷ 116 ∷ 10 ∷ [])
+    × (noticeLine TooLarge ≡ 116 ∷ 111 ∷ 111 ∷ 108 ∷ 97 ∷ 114 ∷ 103 ∷ 101 ∷ 10 ∷ [])
+    × (noticeLine Unknown ≡ 117 ∷ 110 ∷ 107 ∷ 110 ∷ 111 ∷ 119 ∷ 110 ∷ 10 ∷ [])
+unfolding noticeLine
+notices = (refl, refl, refl)
 
 -- ---- a service
 

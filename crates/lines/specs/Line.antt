@@ -18,6 +18,8 @@ use Rattle.engine.specs.declared.outcome.Outcome.{Outcome}
 use Rattle.combine.specs.declared.call.Combined.{Combined}
 use Rattle.combine.specs.declared.call.Combined.the-variants.{Sum, Refused as SumRefused}
 use Rattle.text.specs.Text.{numberText, signedText, wordText, beforeZero, fieldOf, flagText, fieldsOf, checkField}
+use Rattle.lines.specs.declared.line.Notice.{Notice}
+use Rattle.lines.specs.declared.line.Notice.the-variants.{Short, TooLarge, Unknown}
 use Rattle.lines.specs.declared.line.Verb.{Verb}
 use Rattle.lines.specs.declared.line.Verb.the-variants.{Loaded, Wrote, Joined}
 
@@ -147,6 +149,17 @@ combinedFields a =
 unfoldable pub combinedLine : Combined → List ℕ
 combinedLine (Sum a) = combinedFields a ++ lineEnd
 combinedLine (SumRefused n) = endingText (Refused n) ++ lineEnd
+
+-- ---- cases without an answer
+
+-- a case that breaks off: short; one that asks for too much: toolarge; a call that has not landed: unknown
+abbrev pub noticeText : Notice → List ℕ
+noticeText Short = 115 ∷ 104 ∷ 111 ∷ 114 ∷ 116 ∷ []
+noticeText TooLarge = 116 ∷ 111 ∷ 111 ∷ 108 ∷ 97 ∷ 114 ∷ 103 ∷ 101 ∷ []
+noticeText Unknown = 117 ∷ 110 ∷ 107 ∷ 110 ∷ 111 ∷ 119 ∷ 110 ∷ []
+
+unfoldable pub noticeLine : Notice → List ℕ
+noticeLine n = noticeText n ++ lineEnd
 
 -- ---- a service of bags
 

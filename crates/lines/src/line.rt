@@ -25,13 +25,20 @@ ghost use lib.ListN.{take};
 ghost use Rattle.text.specs.Buffer.{Appended, BeginsWith};
 ghost use Rattle.text.specs.Text.{beforeZero, checkOf};
 ghost use Rattle.lines.specs.Line.{lineEnd, endingText, runFields, runLine, allRegisters, longRunLine, tallySums, ofNoRefusal, tallyLine};
-ghost use Rattle.lines.specs.Line.{stepText, stepLine, verbText, unlessRefused, filledLine, combinedFields, combinedLine, servedText, serviceText, bagFields};
+ghost use Rattle.lines.specs.Line.{stepText, stepLine, verbText, unlessRefused, filledLine, combinedFields, combinedLine, noticeText, noticeLine, servedText, serviceText, bagFields};
 
 // What a call that fills a lent slice did.
 pub enum Verb {
     Loaded,
     Wrote,
     Joined,
+}
+
+// Why a case has no answer: it breaks off, it asks for too much, its call has not landed.
+pub enum Notice {
+    Short,
+    TooLarge,
+    Unknown,
 }
 
 // The length of a name that zeros fill up.
@@ -73,17 +80,17 @@ fn append_run(out: &mut [u8; LINE], outcome: Outcome, memory: &[u16]) -> usize
 {
     let ending = outcome.ending;
     let state = outcome.state;
-    let name = append_ending(out, 0, ending);
-    let steps = append_long_field(out, name, outcome.steps);
-    append_state(out, steps, state, memory)
+    let past_name = append_ending(out, 0, ending);
+    let past_steps = append_long_field(out, past_name, outcome.steps);
+    append_state(out, past_steps, state, memory)
 }
 
 // The line of a run.
 pub fn run_line(out: &mut [u8; LINE], outcome: Outcome, memory: &[u16]) -> usize
     ensures { λ r. ⌜ BeginsWith (runLine outcome (now (memory .entry))) (now (out .entry)) r (now (out .exit)) ⌝ }
 {
-    let fields = append_run(out, outcome, memory);
-    append_end(out, fields)
+    let past_fields = append_run(out, outcome, memory);
+    append_end(out, past_fields)
 }
 
 // The check of all 70 registers, set 0 first; sets 1 to 4 are zeros.
@@ -106,11 +113,11 @@ pub fn long_run_line(out: &mut [u8; LINE], outcome: Outcome, memory: &[u16]) -> 
     let steps = outcome.steps;
     let counts = [0, 0, 0, 0, 0, 0, 0, 0, steps];
     let check = check_registers(w);
-    let fields = append_run(out, outcome, memory);
-    let set = append(out, fields, b" 0");
-    let registers = append_long_field(out, set, check);
-    let tasks = append_number_fields(out, registers, &counts);
-    append_end(out, tasks)
+    let past_fields = append_run(out, outcome, memory);
+    let past_set = append(out, past_fields, b" 0");
+    let past_registers = append_long_field(out, past_set, check);
+    let past_tasks = append_number_fields(out, past_registers, &counts);
+    append_end(out, past_tasks)
 }
 
 // Steps, A, B and SR.
@@ -120,8 +127,8 @@ fn append_tally_sums(out: &mut [u8; LINE], at: usize, outcome: Outcome) -> usize
 {
     let state = outcome.state;
     let core = state.core;
-    let steps = append_long_field(out, at, outcome.steps);
-    append_sums(out, steps, core, state.status())
+    let past_steps = append_long_field(out, at, outcome.steps);
+    append_sums(out, past_steps, core, state.status())
 }
 
 // Steps, A, B and SR, unless the ending is a refusal.
@@ -143,9 +150,9 @@ pub fn tally_line(out: &mut [u8; LINE], outcome: Outcome) -> usize
     ensures { λ r. ⌜ BeginsWith (tallyLine outcome) (now (out .entry)) r (now (out .exit)) ⌝ }
 {
     let ending = outcome.ending;
-    let name = append_ending(out, 0, ending);
-    let sums = append_tally(out, name, outcome);
-    append_end(out, sums)
+    let past_name = append_ending(out, 0, ending);
+    let past_sums = append_tally(out, past_name, outcome);
+    append_end(out, past_sums)
 }
 
 // How a step ended: refused, done, trapped or made.
@@ -168,10 +175,10 @@ pub fn step_line(out: &mut [u8; LINE], made: SingleStep, memory: &[u16]) -> usiz
     ensures { λ r. ⌜ BeginsWith (stepLine made (now (memory .entry))) (now (out .entry)) r (now (out .exit)) ⌝ }
 {
     let state = made.state;
-    let ending = append_step(out, made);
-    let steps = append_flag_field(out, ending, made.counted);
-    let fields = append_state(out, steps, state, memory);
-    append_end(out, fields)
+    let past_ending = append_step(out, made);
+    let past_steps = append_flag_field(out, past_ending, made.counted);
+    let past_fields = append_state(out, past_steps, state, memory);
+    append_end(out, past_fields)
 }
 
 // The verb.
@@ -201,20 +208,20 @@ pub fn filled_line(out: &mut [u8; LINE], verb: Verb, answer: Answer, slice: &[u8
     ensures { λ r. ⌜ BeginsWith (filledLine verb answer (now (slice .entry))) (now (out .entry)) r (now (out .exit)) ⌝ }
 {
     let check = check_bytes(0, slice);
-    let name = append_answer(out, verb, answer.number());
-    let bytes = append_number_field(out, name, answer.bytes() as u64);
-    let checked = append_long_field(out, bytes, check);
-    append_end(out, checked)
+    let past_name = append_answer(out, verb, answer.number());
+    let past_bytes = append_number_field(out, past_name, answer.bytes() as u64);
+    let past_checked = append_long_field(out, past_bytes, check);
+    append_end(out, past_checked)
 }
 
 // A combined sum: A, OA, SA.
-fn append_sum(out: &mut [u8; LINE], sum: Accumulator) -> usize
+fn append_combined(out: &mut [u8; LINE], sum: Accumulator) -> usize
     ensures { λ r. ⌜ Appended 0 34 (combinedFields sum) (now (out .entry)) r (now (out .exit)) ⌝ }
 {
-    let name = append(out, 0, b"combined");
-    let a = append_signed_field(out, name, sum.value);
-    let oa = append_flag_field(out, a, sum.overflow);
-    append_flag_field(out, oa, sum.saturation)
+    let past_name = append(out, 0, b"combined");
+    let past_a = append_signed_field(out, past_name, sum.value);
+    let past_oa = append_flag_field(out, past_a, sum.overflow);
+    append_flag_field(out, past_oa, sum.saturation)
 }
 
 // The line of combined boards: the sum or the refusal.
@@ -223,14 +230,33 @@ pub fn combined_line(out: &mut [u8; LINE], answer: Combined) -> usize
 {
     match answer {
         Combined::Sum(sum) => {
-            let fields = append_sum(out, sum);
-            append_end(out, fields)
+            let past_fields = append_combined(out, sum);
+            append_end(out, past_fields)
         }
         Combined::Refused(n) => {
-            let name = append_ending(out, 0, Ending::Refused(n));
-            append_end(out, name)
+            let past_name = append_ending(out, 0, Ending::Refused(n));
+            append_end(out, past_name)
         }
     }
+}
+
+// The text of a notice.
+fn append_notice(out: &mut [u8; LINE], notice: Notice) -> usize
+    ensures { λ r. ⌜ Appended 0 9 (noticeText notice) (now (out .entry)) r (now (out .exit)) ⌝ }
+{
+    match notice {
+        Notice::Short => append(out, 0, b"short"),
+        Notice::TooLarge => append(out, 0, b"toolarge"),
+        Notice::Unknown => append(out, 0, b"unknown"),
+    }
+}
+
+// The line of a case that has no answer.
+pub fn notice_line(out: &mut [u8; LINE], notice: Notice) -> usize
+    ensures { λ r. ⌜ BeginsWith (noticeLine notice) (now (out .entry)) r (now (out .exit)) ⌝ }
+{
+    let past_text = append_notice(out, notice);
+    append_end(out, past_text)
 }
 
 // `served`, or the refusal.
@@ -257,16 +283,16 @@ pub fn service_text(
 {
     let codes = check_bytes(0, endings);
     let counts = check_longs(0, steps);
-    let served = append_served(out, refusal);
-    let fields = append_state(out, served, state, memory);
-    let checked = append_long_field(out, fields, codes);
-    append_long_field(out, checked, counts)
+    let past_served = append_served(out, refusal);
+    let past_fields = append_state(out, past_served, state, memory);
+    let past_checked = append_long_field(out, past_fields, codes);
+    append_long_field(out, past_checked, counts)
 }
 
 // The fields of a bag: its ending's code and its steps.
 pub fn bag_text(out: &mut [u8; LINE], ending: u8, steps: u32) -> usize
     ensures { λ r. ⌜ BeginsWith (bagFields ending steps) (now (out .entry)) r (now (out .exit)) ⌝ }
 {
-    let code = append_word_field(out, 0, ending as u16);
-    append_long_field(out, code, steps)
+    let past_code = append_word_field(out, 0, ending as u16);
+    append_long_field(out, past_code, steps)
 }

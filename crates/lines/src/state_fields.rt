@@ -20,9 +20,9 @@ fn append_slot(out: &mut [u8; LINE], at: usize, start: usize, left: u32) -> usiz
     requires { ⌜ at + 42 ≤ 640 ⌝ }
     ensures { λ r. ⌜ Appended at 42 (slotField start left) (now (out .entry)) r (now (out .exit)) ⌝ }
 {
-    let number = append_number_field(out, at, start as u64);
-    let colon = append(out, number, b":");
-    append_number(out, colon, left as u64)
+    let past_number = append_number_field(out, at, start as u64);
+    let past_colon = append(out, past_number, b":");
+    append_number(out, past_colon, left as u64)
 }
 
 // The four slots.
@@ -30,10 +30,10 @@ fn append_slots(out: &mut [u8; LINE], at: usize, starts: [usize; 4], passes: [u3
     requires { ⌜ at + 168 ≤ 640 ⌝ }
     ensures { λ r. ⌜ Appended at 168 (slotFields starts passes) (now (out .entry)) r (now (out .exit)) ⌝ }
 {
-    let second = append_slot(out, at, starts[0], passes[0]);
-    let third = append_slot(out, second, starts[1], passes[1]);
-    let fourth = append_slot(out, third, starts[2], passes[2]);
-    append_slot(out, fourth, starts[3], passes[3])
+    let past_second = append_slot(out, at, starts[0], passes[0]);
+    let past_third = append_slot(out, past_second, starts[1], passes[1]);
+    let past_fourth = append_slot(out, past_third, starts[2], passes[2]);
+    append_slot(out, past_fourth, starts[3], passes[3])
 }
 
 // A, B, SR.
@@ -41,9 +41,9 @@ pub fn append_sums(out: &mut [u8; LINE], at: usize, core: Core, status: u16) -> 
     requires { ⌜ at + 49 ≤ 640 ⌝ }
     ensures { λ r. ⌜ Appended at 49 (sumFields core status) (now (out .entry)) r (now (out .exit)) ⌝ }
 {
-    let a = append_signed_field(out, at, core.a);
-    let b = append_signed_field(out, a, core.b);
-    append_word_field(out, b, status)
+    let past_a = append_signed_field(out, at, core.a);
+    let past_b = append_signed_field(out, past_a, core.b);
+    append_word_field(out, past_b, status)
 }
 
 // pc, repeat left, mode word, number of active loops, the four slots.
@@ -54,11 +54,11 @@ fn append_control(out: &mut [u8; LINE], at: usize, core: Core) -> usize
     let loops = core.loops;
     let starts = loops.starts;
     let passes = loops.passes;
-    let pc = append_number_field(out, at, core.pc as u64);
-    let repeat = append_long_field(out, pc, core.repeat);
-    let mode = append_word_field(out, repeat, core.mode);
-    let depth = append_number_field(out, mode, loops.depth as u64);
-    append_slots(out, depth, starts, passes)
+    let past_pc = append_number_field(out, at, core.pc as u64);
+    let past_repeat = append_long_field(out, past_pc, core.repeat);
+    let past_mode = append_word_field(out, past_repeat, core.mode);
+    let past_depth = append_number_field(out, past_mode, loops.depth as u64);
+    append_slots(out, past_depth, starts, passes)
 }
 
 // W0..W13, in hexadecimal.
@@ -77,8 +77,8 @@ pub fn append_state(out: &mut [u8; LINE], at: usize, state: State, memory: &[u16
     let core = state.core;
     let w = core.w;
     let check = check_words(0, memory);
-    let sums = append_sums(out, at, core, state.status());
-    let control = append_control(out, sums, core);
-    let registers = append_registers(out, control, w);
-    append_long_field(out, registers, check)
+    let past_sums = append_sums(out, at, core, state.status());
+    let past_control = append_control(out, past_sums, core);
+    let past_registers = append_registers(out, past_control, w);
+    append_long_field(out, past_registers, check)
 }

@@ -1,16 +1,18 @@
--- What a call for one step leaves, refused, done or executed. Assumes nothing.
-use Prim.Native.Nat.{ℕ, zero, suc}
+-- What a call for one step leaves, refused, done or executed; a call's refusal is at most 7. Assumes nothing.
+use Prim.Native.Nat.{ℕ, zero, suc, _≤_}
 use mathlib.Core.Bool.{false}
 use mathlib.Core.Path.{_≡_, refl, sym, _∙_}
 use mathlib.Core.List.{List}
+use native.Mathlib.Omega.{arith}
 use borrow.Author.Tests.{eq-eqb, ne-eqb}
+use lib.Dec.{lit≤}
 use lib.ListN.{length}
 use Rattle.program.specs.Answer.{_then_, ifAccepted}
 use Rattle.program.specs.File.{fileRefusal, operationCount, programOf}
-use Rattle.program.proofs.Answers.{then-first, then-second}
-use Rattle.program.proofs.Accepted.{program-length}
-use Rattle.state.specs.Settings.{settingsRefusal}
-use Rattle.state.specs.Accept.{stateRefusal}
+use Rattle.program.proofs.Answers.{then-first, then-second, then-most, test-most}
+use Rattle.program.proofs.Accepted.{program-length, file-most}
+use Rattle.state.specs.Settings.{areSettings, settingsRefusal}
+use Rattle.state.specs.Accept.{isState, stateRefusal}
 use Rattle.state.specs.declared.settings.Settings.{Settings}
 use Rattle.state.specs.declared.state.State.{State}
 use Rattle.machine.specs.Step.{stepped}
@@ -39,6 +41,14 @@ module _ (file : List ℕ) (settings : Settings) (s : State) where
   call-state words e =
       then-second (settingsRefusal settings words) (stateRefusal (programOf file) s)
       (then-second (fileRefusal file) (settingsRefusal settings words then stateRefusal (programOf file) s) e)
+
+  -- 1 to 5 of the file; 6; 7; or none
+  pub call-most : (words : ℕ) → callRefusal file settings s words ≤ 7
+  unfolding callRefusal settingsRefusal stateRefusal
+  call-most words =
+      then-most (fileRefusal file) (settingsRefusal settings words then stateRefusal (programOf file) s) 7 (omega (arith, file-most file))
+      (then-most (settingsRefusal settings words) (stateRefusal (programOf file) s) 7 (test-most (areSettings settings words) 6 7 (lit≤ tt))
+      (test-most (isState (programOf file) s) 7 7 (lit≤ tt)))
 
   module _ (memory : List ℕ) where
     pub call-refused : (n : ℕ) (r : SingleStep) → n ≡ callRefusal file settings s (length memory) → (n ≡ 0 → ⊥)

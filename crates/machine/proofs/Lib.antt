@@ -7,6 +7,7 @@ pub mod Order
 pub mod ControlKinds
 pub mod Words
 pub mod Places
+pub mod Traps
 pub mod Nested
 pub mod Around
 pub mod Stands

@@ -1,11 +1,11 @@
--- What the work of every listed operation has in common: as many registers as before, with a trap the same ones, a store to a place of the machine, words of
--- 16 bits, a free slot where a DO has no trap. Assumes nothing.
-use Prim.Native.Nat.{ℕ, zero, suc, _<_}
+-- What the work of every listed operation has in common: a trap of 1 to 4 or none, as many registers as before, with a trap the same ones, a store to a place
+-- of the machine, words of 16 bits, a free slot where a DO has no trap. Assumes nothing.
+use Prim.Native.Nat.{ℕ, zero, suc, _≤_, _<_}
 use mathlib.Core.Bool.{Bool, true, false}
 use mathlib.Core.Path.{_≡_, refl, _∙_}
 use mathlib.Core.List.{List, [], _∷_}
 use native.Mathlib.Omega.{arith}
-use lib.Dec.{eqb, ltb, lit<}
+use lib.Dec.{eqb, ltb, lit<, lit≤}
 use lib.IntN.{ℤ, pos}
 use lib.ListN.{length, length-set}
 use borrow.Author.Tests.{ltb-true, eqb-true}
@@ -15,12 +15,13 @@ use Rattle.accumulator.specs.Shift.{shiftAllowed}
 use Rattle.accumulator.specs.declared.mode.Mode.{Mode}
 use Rattle.accumulator.specs.declared.mode.Target.{Target}
 use Rattle.address.specs.Region.{allWords}
-use Rattle.address.proofs.Regions.{free-word}
+use Rattle.address.proofs.Regions.{free-word, access-most}
 use Rattle.operations.specs.Listed.{isRegister, isWord, reads, isListedOperand, isListed}
 use Rattle.operations.specs.declared.operation.Operand.{Operand}
 use Rattle.operations.specs.declared.operation.Operand.the-variants.{Register as Direct, Memory as Pointed}
 use Rattle.operations.specs.declared.operation.PostModification.{PostModification}
 use Rattle.operations.specs.declared.operation.Prefetch.{Prefetch}
+use Rattle.operations.specs.declared.operation.Prefetch.the-variants.{None as NoPrefetch, Pointer, Sum}
 use Rattle.operations.specs.declared.operation.WriteBack.{WriteBack}
 use Rattle.operations.specs.declared.operation.WriteBack.the-variants.{None as NoWriteBack, Register as ToRegister, Memory as ToMemory}
 use Rattle.operations.specs.declared.operation.MacClass.{MacClass}
@@ -28,12 +29,13 @@ use Rattle.operations.specs.declared.operation.Operation.{Operation}
 use Rattle.operations.specs.declared.operation.Operation.the-variants.{MacClass as MacOperation, AddAccumulators, Subtract, Negate, Shift, Lac, Add, Sac}
 use Rattle.operations.specs.declared.operation.Operation.the-variants.{SacR, Literal, Load, Store, Repeat, RepeatRegister, Do, DoRegister, EndEarly, SetMode}
 use Rattle.operations.specs.declared.operation.Operation.the-variants.{ClearSaturation}
-use Rattle.program.proofs.Answers.{then-second}
+use Rattle.program.specs.Answer.{_then_}
+use Rattle.program.proofs.Answers.{then-second, then-most}
 use Rattle.state.specs.State.{register, accumulatorOf}
 use Rattle.state.specs.Typed.{AreWords}
 use Rattle.state.specs.declared.settings.Settings.{Settings}
 use Rattle.state.specs.declared.state.Core.{Core}
-use Rattle.effects.specs.Access.{operandAccess, backAccess, changed}
+use Rattle.effects.specs.Access.{operandAccess, regionOf, sumAddress, prefetchAccess, backAccess, changed}
 use Rattle.effects.specs.Effect.{Work, quiet, blocked, results, unlessTrap}
 use Rattle.effects.specs.Mac.{macAccesses, macTrap, isDistance, loaded, arrived, macRegisters, macWork}
 use Rattle.effects.specs.Operations.{shiftWork, loadWork, storeWork, moveWork, loopWork, workOf}
@@ -41,6 +43,7 @@ use Rattle.effects.specs.declared.pointer.Purpose.{Purpose}
 use Rattle.effects.specs.declared.pointer.Purpose.the-variants.{Read, Store as Storing}
 use Rattle.effects.specs.declared.pointer.Change.{Change}
 use Rattle.effects.specs.declared.pointer.Change.the-variants.{None as NoChange, To}
+use Rattle.effects.specs.declared.access.Space.{Space}
 use Rattle.effects.specs.declared.access.Space.the-variants.{X, Y}
 use Rattle.effects.specs.declared.access.Place.{Place}
 use Rattle.effects.specs.declared.access.Place.the-variants.{Nowhere, Register, Memory}
@@ -55,6 +58,32 @@ abbrev pub Fits : ℕ → Place → Type 0
 Fits words Nowhere = Unit {0}
 Fits words (Register r) = r < 14
 Fits words (Memory i) = i .0 < words
+
+-- ---- an access's trap: 1, 2 or none
+
+operand-trap : (s : Settings) (purpose : Purpose) (o : Operand) (w : List ℕ) (words : ℕ) → operandAccess s purpose o w words .trap ≤ 2
+unfolding operandAccess
+operand-trap s purpose (Direct r) w words = lit≤ tt
+operand-trap s purpose (Pointed p post) w words = access-most (allWords words) (register w p)
+
+prefetch-trap : (s : Settings) (space : Space) (p : Prefetch) (w : List ℕ) (words : ℕ) → prefetchAccess s space p w words .trap ≤ 2
+unfolding prefetchAccess
+prefetch-trap s space NoPrefetch w words = lit≤ tt
+prefetch-trap s space (Pointer r c) w words = access-most (regionOf s words space) (register w r)
+prefetch-trap s space Sum w words = access-most (regionOf s words space) (sumAddress space w)
+
+back-trap : (s : Settings) (back : WriteBack) (w : List ℕ) (words : ℕ) → backAccess s back w words .trap ≤ 2
+unfolding backAccess
+back-trap s NoWriteBack w words = lit≤ tt
+back-trap s ToRegister w words = lit≤ tt
+back-trap s ToMemory w words = access-most (allWords words) (register w 13)
+
+mac-trap : (s : Settings) (q : MacClass) (w : List ℕ) (words : ℕ) → macTrap (macAccesses s q w words) ≤ 2
+unfolding macAccesses
+mac-trap s q w words =
+    let a = macAccesses s q w words in
+    then-most (a .x .trap) (a .y .trap then a .back .trap) 2 (prefetch-trap s X (q .x) w words)
+    (then-most (a .y .trap) (a .back .trap) 2 (prefetch-trap s Y (q .y) w words) (back-trap s (q .back) w words))
 
 -- ---- accesses without a trap
 
@@ -100,8 +129,10 @@ module _ (s : Settings) (m : Mode) (c : Core) (memory : List ℕ) where
   abbrev Worded : Work → Type 0
   Worded work = AreWords (c .w) → AreWords memory → AreWords (work .w) × ValueWord (work .effect .value)
 
-  -- as many registers as before, with a trap the same ones; a place of the machine; words; where a loop begins without a trap, a free slot
+  -- a trap of 1 to 4 or none; as many registers as before, with a trap the same ones; a place of the machine; words; where a loop begins without a trap, a
+  -- free slot
   pub record Fitted (loops : Bool) (work : Work) : Type 0 where
+    pub trap : work .effect .trap ≤ 4
     pub long : length (work .w) ≡ length (c .w)
     pub leaves : (work .effect .trap ≡ 0 → ⊥) → work .w ≡ c .w
     pub place : Fits (length memory) (work .effect .place)
@@ -109,27 +140,30 @@ module _ (s : Settings) (m : Mode) (c : Core) (memory : List ℕ) where
     pub slot : loops ≡ true → work .effect .trap ≡ 0 → c .loops .depth < 4
 
   -- registers that stay, and no store
-  none-fitted : (loops : Bool) (trap : ℕ) → (loops ≡ true → trap ≡ 0 → c .loops .depth < 4) → Fitted loops (blocked (c .w) trap)
-  none-fitted loops trap free = record { long = refl; leaves = λ z. refl; place = tt; words = λ h k. (h, plain-word 0 (lit< tt)); slot = free }
+  none-fitted : (loops : Bool) (trap : ℕ) → trap ≤ 4 → (loops ≡ true → trap ≡ 0 → c .loops .depth < 4) → Fitted loops (blocked (c .w) trap)
+  none-fitted loops trap most free =
+      record { trap = most; long = refl; leaves = λ z. refl; place = tt; words = λ h k. (h, plain-word 0 (lit< tt)); slot = free }
 
-  -- with a trap that is all
-  unless-fitted : (trap : ℕ) (work : Work) → (trap ≡ 0 → Fitted false work) → Fitted false (unlessTrap (c .w) trap work)
-  unless-fitted trap work h =
-      by-test (Fitted false) (eqb trap 0) {x = work} {y = blocked (c .w) trap} (λ e. h (eqb-true trap 0 e)) (λ e. none-fitted false trap (λ z. never z))
+  -- with an access's trap that is all
+  unless-fitted : (trap : ℕ) (work : Work) → trap ≤ 2 → (trap ≡ 0 → Fitted false work) → Fitted false (unlessTrap (c .w) trap work)
+  unless-fitted trap work most h =
+      by-test (Fitted false) (eqb trap 0) {x = work} {y = blocked (c .w) trap} (λ e. h (eqb-true trap 0 e))
+      (λ e. none-fitted false trap (omega arith) (λ z. never z))
 
   -- an exact result that leaves the registers
   results-fitted : (t : Target) (r : ℤ) → Fitted false (results (c .w) t r)
   results-fitted t r =
-      record { long = refl; leaves = λ z. refl; place = tt; words = λ h k. (h, plain-word 0 (lit< tt)); slot = λ z. never z }
+      record { trap = lit≤ tt; long = refl; leaves = λ z. refl; place = tt; words = λ h k. (h, plain-word 0 (lit< tt)); slot = λ z. never z }
 
   mac-fitted : (q : MacClass) → Fitted false (macWork s m q c memory)
   unfolding macWork macAccesses macRegisters
   mac-fitted q =
       let a = macAccesses s q (c .w) (length memory) in
-      unless-fitted (macTrap a) _
+      unless-fitted (macTrap a) _ (mac-trap s q (c .w) (length memory))
       (λ e.
       let free : a .back .trap ≡ 0 = then-second (a .y .trap) _ (then-second (a .x .trap) _ e) in
       record {
+        trap = lit≤ tt;
         long = registers-long q a (c .w) memory;
         leaves = λ z. absurd (z refl);
         place = back-fits s (q .back) (c .w) (length memory) free;
@@ -146,7 +180,7 @@ module _ (s : Settings) (m : Mode) (c : Core) (memory : List ℕ) where
 
   shift-fitted : (t : Target) (n : ℤ) → Fitted false (shiftWork t n c)
   unfolding shiftWork
-  shift-fitted t n = by-test (Fitted false) (shiftAllowed n) (λ e. results-fitted t _) (λ e. none-fitted false 3 (λ z. never z))
+  shift-fitted t n = by-test (Fitted false) (shiftAllowed n) (λ e. results-fitted t _) (λ e. none-fitted false 3 (lit≤ tt) (λ z. never z))
 
   -- the registers after an operand's access
   operand-words : (purpose : Purpose) (o : Operand) → AreWords (c .w) → AreWords (changed (operandAccess s purpose o (c .w) (length memory) .change) (c .w))
@@ -157,9 +191,10 @@ module _ (s : Settings) (m : Mode) (c : Core) (memory : List ℕ) where
   unfolding loadWork
   load-fitted t v b2 from =
       let a = operandAccess s Read from (c .w) (length memory) in
-      unless-fitted (a .trap) _
+      unless-fitted (a .trap) _ (operand-trap s Read from (c .w) (length memory))
       (λ e.
       record {
+        trap = lit≤ tt;
         long = changed-long (a .change) (c .w);
         leaves = λ z. absurd (z refl);
         place = tt;
@@ -172,9 +207,10 @@ module _ (s : Settings) (m : Mode) (c : Core) (memory : List ℕ) where
   unfolding storeWork
   store-fitted b2 to v ok hv =
       let a = operandAccess s Storing to (c .w) (length memory) in
-      unless-fitted (a .trap) _
+      unless-fitted (a .trap) _ (operand-trap s Storing to (c .w) (length memory))
       (λ e.
       record {
+        trap = lit≤ tt;
         long = changed-long (a .change) (c .w);
         leaves = λ z. absurd (z refl);
         place = operand-fits s Storing b2 to (c .w) (length memory) ok e;
@@ -186,9 +222,10 @@ module _ (s : Settings) (m : Mode) (c : Core) (memory : List ℕ) where
   unfolding moveWork
   move-fitted to p post ok =
       let a = operandAccess s Read (Pointed p post) (c .w) (length memory) in
-      unless-fitted (a .trap) _
+      unless-fitted (a .trap) _ (operand-trap s Read (Pointed p post) (c .w) (length memory))
       (λ e.
       record {
+        trap = lit≤ tt;
         long = changed-long (a .change) (c .w);
         leaves = λ z. absurd (z refl);
         place = ltb-true to 14 ok;
@@ -199,12 +236,12 @@ module _ (s : Settings) (m : Mode) (c : Core) (memory : List ℕ) where
   loop-fitted : Fitted true (loopWork c)
   unfolding loopWork
   loop-fitted =
-      by-test (Fitted true) (ltb (c .loops .depth) 4) (λ e. none-fitted true 0 (λ t z. ltb-true (c .loops .depth) 4 e))
-      (λ e. none-fitted true 4 (λ t z. absurd (omega (arith, z))))
+      by-test (Fitted true) (ltb (c .loops .depth) 4) (λ e. none-fitted true 0 (lit≤ tt) (λ t z. ltb-true (c .loops .depth) 4 e))
+      (λ e. none-fitted true 4 (lit≤ tt) (λ t z. absurd (omega (arith, z))))
 
   -- kinds that only go on
   quiet-fitted : Fitted false (quiet (c .w))
-  quiet-fitted = none-fitted false 0 (λ z. never z)
+  quiet-fitted = none-fitted false 0 (lit≤ tt) (λ z. never z)
 
   pub work-fitted : (o : Operation) → isListed o ≡ true → Fitted (begins (controlOf o)) (workOf s m o c memory)
   unfolding workOf isListed controlOf
@@ -220,6 +257,7 @@ module _ (s : Settings) (m : Mode) (c : Core) (memory : List ℕ) where
   work-fitted (Literal r v) ok =
       let (register, word) = both (isRegister r) (isWord v) ok in
       record {
+        trap = lit≤ tt;
         long = refl;
         leaves = λ z. refl;
         place = ltb-true r 14 register;

@@ -15,13 +15,9 @@ use Rattle.accumulator.specs.Limit.{isAccumulator, keptOf, writeOf}
 use Rattle.accumulator.specs.declared.mode.Mode.{Mode}
 use Rattle.accumulator.specs.declared.mode.Target.the-variants.{A, B}
 use Rattle.accumulator.proofs.Sizes.{within-accumulator, kept-within}
-use Rattle.operations.specs.Listed.{isListed, isWord, isCount}
+use Rattle.operations.specs.Listed.{isListed}
 use Rattle.operations.specs.declared.operation.Operation.{Operation}
-use Rattle.operations.specs.declared.operation.Operation.the-variants.{MacClass as MacOperation, AddAccumulators, Subtract, Negate, Shift, Lac, Add, Sac}
-use Rattle.operations.specs.declared.operation.Operation.the-variants.{SacR, Literal, Load, Store, Repeat, RepeatRegister, Do, DoRegister, EndEarly, SetMode}
-use Rattle.operations.specs.declared.operation.Operation.the-variants.{ClearSaturation}
-use Rattle.program.specs.Placement.{roleOf, roleAt, isRepeat, lastOf, isPlaced}
-use Rattle.program.specs.declared.placement.Role.{Role}
+use Rattle.program.specs.Placement.{roleAt, isRepeat, lastOf, isPlaced}
 use Rattle.program.specs.declared.placement.Role.the-variants.{Plain, Repeats, Loops as Looped}
 use Rattle.state.specs.State.{register, goTo, withMode, restartedState}
 use Rattle.state.specs.Accept.{followsRepeat, isRepeatLeft, stateRefusal}
@@ -45,6 +41,7 @@ use Rattle.machine.specs.declared.control.Control.the-variants.{DoRegist
 use Rattle.machine.specs.declared.control.Control.the-variants.{ClearSaturation as Clearing}
 use Rattle.machine.proofs.Works.{settled-pc, settled-loops}
 use Rattle.machine.proofs.Order.{withSums}
+use Rattle.machine.proofs.ControlKinds.{Suits, by-kind}
 use Rattle.machine.proofs.Places.{work-fitted}
 use Rattle.state.specs.Typed.{AreWords, Typed}
 use Rattle.program.proofs.Placed.{role-is}
@@ -119,40 +116,6 @@ module _ (p : List Operation) (pc : ℕ) where
           let most : n ≤ 65536 = leb-true n 65536 (both (leb 1 n) (leb n 65536) h .1) in
           rw (le-leb 1 (n - 1) (omega arith), le-leb (n - 1) 65536 (omega arith))
       go false h = absurd (omega (arith, eqb-true n 0 h))
-
--- ---- what a kind's control says of its operation
-
-abbrev Suits : Control → Role → Type 0
-Suits Onward r = r ≡ Plain
-Suits (Repeating n) r = (r ≡ Repeats) × (n < 2 ^ 16)
-Suits (RepeatingRegister x) r = r ≡ Repeats
-Suits (Looping n) r = (r ≡ Looped (lastOf r)) × (n < 32768)
-Suits (LoopingRegister x) r = r ≡ Looped (lastOf r)
-Suits EndingEarly r = r ≡ Plain
-Suits (SettingMode word) r = (r ≡ Plain) × (isGoodMode word ≡ true)
-Suits Clearing r = r ≡ Plain
-
-operation-suits : (o : Operation) → isListed o ≡ true → Suits (controlOf o) (roleOf o)
-unfolding controlOf isListed
-operation-suits (MacOperation k) ok = refl
-operation-suits (AddAccumulators t) ok = refl
-operation-suits (Subtract t) ok = refl
-operation-suits (Negate t) ok = refl
-operation-suits (Shift t r) ok = refl
-operation-suits (Lac t b2 o) ok = refl
-operation-suits (Add t b2 o) ok = refl
-operation-suits (Sac t b2 o) ok = refl
-operation-suits (SacR t b2 o) ok = refl
-operation-suits (Literal r v) ok = refl
-operation-suits (Load r p post) ok = refl
-operation-suits (Store r p post) ok = refl
-operation-suits (Repeat n) ok = let small : n < 32768 = ltb-true n 32768 ok in (refl, omega arith)
-operation-suits (RepeatRegister r) ok = refl
-operation-suits (Do n last) ok = (refl, ltb-true n 32768 (both (isCount n) (isWord last) ok .0))
-operation-suits (DoRegister r last) ok = refl
-operation-suits EndEarly ok = refl
-operation-suits (SetMode word) ok = (refl, both (isGoodMode word) (isWord word) ok .0)
-operation-suits ClearSaturation ok = refl
 
 -- ---- the order of execution keeps it
 
@@ -302,7 +265,7 @@ module _ (p : List Operation) (placed : isPlaced p ≡ true) where
         registers = put-long place word (work .w) ∙ fitted .long ∙ h .registers;
         words = put-register place word (work .w) (value m) words;
       })
-      l (rw (role-is p (s .core .pc)) (operation-suits o ok))
+      l (rw (role-is p (s .core .pc)) (by-kind o .suits ok))
       (λ b. fitted .slot b (eqb-true (work .effect .trap) 0 e)))
       (λ e. h)
 

@@ -1173,6 +1173,9 @@ keeps-flags :
     (bare Clr A 0 0
     ∷ bare Mpy B 4 5
     ∷ bare Mac A 4 5
+    ∷ bare Msc B 4 5
+    ∷ bare Ed A 4 4
+    ∷ bare Edac B 4 4
     ∷ bare Movsac B 0 0
     ∷ AddAccumulators A
     ∷ Subtract B
@@ -1192,7 +1195,7 @@ keeps-flags :
     ∷ EndEarly
     ∷ SetMode 0
     ∷ [])
-    ≡ replicate 21 (true, true)
+    ≡ replicate 24 (true, true)
 unfolding after
 keeps-flags = refl
 

@@ -46,7 +46,8 @@ use Rattle.service.specs.Service.{Bag, onward, engineOf, firstBefore, Se
 use Rattle.service.specs.Exact.{Sound, Every, Pairs, AsFar, NoneLeft, ExactService}
 use Rattle.service.specs.Bags.{Schedule, scheduleOf, filled, firstBags, bagsOf}
 use Rattle.service.specs.Call.{isEnough, serviceRefusal, codeIn, ServedUpTo}
-use Rattle.service.proofs.Services.{accepted-begins, exact-service}
+use Rattle.service.proofs.Fits.{accepted-begins}
+use Rattle.service.proofs.Services.{exact-service}
 use Rattle.state.proofs.Parts.{zeros}
 
 -- ---- how the examples are written

@@ -1,5 +1,6 @@
 -- Worked examples first, then laws.
 pub mod Examples
+pub mod Fits
 pub mod Services
 pub mod Calls
 pub mod Schedules

@@ -1,14 +1,16 @@
 -- The header's fields where CASES.md has them: in a header whose byte i is i modulo 251 each field tells its place. Assumes nothing.
-use Prim.Native.Nat.{ℕ, _%_}
+use Prim.Native.Nat.{ℕ, _+_, _/_, _%_}
 use mathlib.Core.Path.{_≡_, refl}
-use mathlib.Core.Bool.{true, false}
-use mathlib.Core.List.{List, [], _∷_}
+use mathlib.Core.Bool.{Bool, true, false, cond}
+use mathlib.Core.List.{List, [], _∷_, _++_, map}
+use lib.Dec.{eqb}
 use lib.IntN.{pos}
+use lib.ListN.{replicate}
 use Rattle.integers.specs.Bits.{signedOf}
 use Rattle.integers.specs.Range.{minus}
 use Rattle.address.specs.Reversal.{valuesFrom}
 use Rattle.combine.specs.declared.board.Board.{Board}
-use Rattle.stream.specs.Header.{fileSize, memoryWords, budgetIn, secondSize, outputRoom, settingsIn, stateIn, registersIn, loopsIn}
+use Rattle.stream.specs.Header.{fileSize, memoryWords, budgetIn, secondSize, outputRoom, whatIn, settingsIn, stateIn, registersIn, loopsIn}
 use Rattle.stream.specs.Memory.{memoryIn}
 use Rattle.stream.specs.Boards.{boardIn, boardsIn}
 
@@ -16,14 +18,15 @@ use Rattle.stream.specs.Boards.{boardIn, boardsIn}
 abbrev counted : List ℕ
 counted = valuesFrom (λ (i : ℕ). i % 251) 0 320
 
--- F at 0, M at 4, the budget at 8, G at 260, R at 268
+-- F at 0, M at 4, the budget at 8, G at 260, R at 268; what is asked for at 111
 sizes :
     (fileSize counted ≡ 0x03020100)
     × (memoryWords counted ≡ 0x07060504)
     × (budgetIn counted ≡ 0x0b0a0908)
     × (secondSize counted ≡ 0x0c0b0a09)
     × (outputRoom counted ≡ 0x14131211)
-sizes = (refl, refl, refl, refl, refl)
+    × (whatIn counted ≡ 111)
+sizes = (refl, refl, refl, refl, refl, refl)
 
 -- 12 words of X, 14 trap word, 16 X's register, 18 S, 20 E, 22 Y's, 24, 26, 28 the bit-reversed register, 30 N
 settings :
@@ -65,6 +68,23 @@ state :
 unfolding stateIn registersIn loopsIn signedOf
 state = refl
 
+-- byte 110: bit 0 OA, 1 OB, 2 SA, 3 SB, each by itself; the other bits are none of them
+abbrev flags-of : ℕ → List Bool
+flags-of f =
+    let s = stateIn (replicate 110 0 ++ (f ∷ [])) in
+    s .core .oa ∷ s .core .ob ∷ s .sa ∷ s .sb ∷ []
+
+one-flag :
+    map flags-of (1 ∷ 2 ∷ 4 ∷ 8 ∷ 0xf0 ∷ [])
+    ≡ (true ∷ false ∷ false ∷ false ∷ [])
+    ∷ (false ∷ true ∷ false ∷ false ∷ [])
+    ∷ (false ∷ false ∷ true ∷ false ∷ [])
+    ∷ (false ∷ false ∷ false ∷ true ∷ [])
+    ∷ (false ∷ false ∷ false ∷ false ∷ [])
+    ∷ []
+unfolding stateIn
+one-flag = refl
+
 -- two words, low byte first
 two-words : memoryIn (1 ∷ 2 ∷ 3 ∷ 4 ∷ []) 2 ≡ 0x0201 ∷ 0x0403 ∷ []
 two-words = refl
@@ -86,3 +106,10 @@ entries :
     × (boardsIn two-boards 1 ≡ record { a = pos 5; sa = false } ∷ none ∷ none ∷ none ∷ none ∷ none ∷ none ∷ none ∷ [])
 unfolding boardsIn signedOf
 entries = (refl, refl)
+
+-- eight boards in their order: A of board i is i + 1
+eight-boards :
+    map (λ (b : Board). b .a) (boardsIn (valuesFrom (λ (i : ℕ). cond (eqb (i % 9) 0) (i / 9 + 1) 0) 0 72) 8)
+    ≡ pos 1 ∷ pos 2 ∷ pos 3 ∷ pos 4 ∷ pos 5 ∷ pos 6 ∷ pos 7 ∷ pos 8 ∷ []
+unfolding boardsIn signedOf
+eight-boards = refl

@@ -58,6 +58,10 @@ secondSize head = fourBytesAt head 260
 abbrev pub outputRoom : List ℕ → ℕ
 outputRoom head = fourBytesAt head 268
 
+-- at 111: what is asked for; from 16 on the case has the long form
+abbrev pub whatIn : List ℕ → ℕ
+whatIn head = getD head 111 0
+
 -- ---- settings
 
 -- a register, a zero byte, S and E

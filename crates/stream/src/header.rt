@@ -10,7 +10,7 @@ use state::state::State;
 ghost use mathlib.Core.Path.{_≡_};
 ghost use Prim.Native.Nat.{_+_, _*_, _<_};
 ghost use Rattle.integers.specs.Bits.{signedOf};
-ghost use Rattle.stream.specs.Header.{twoBytesOf, twoBytesAt, fourBytesOf, fourBytesAt, eightBytesOf, eightBytesAt, fileSize, memoryWords, budgetIn, secondSize, outputRoom};
+ghost use Rattle.stream.specs.Header.{twoBytesOf, twoBytesAt, fourBytesOf, fourBytesAt, eightBytesOf, eightBytesAt, fileSize, memoryWords, budgetIn, secondSize, outputRoom, whatIn};
 ghost use Rattle.stream.specs.Header.{circularAt, settingsIn, registersIn, loopsIn, flagIn, modeWordIn, stateIn};
 
 // 16 bits.
@@ -83,6 +83,13 @@ pub fn file_size(head: [u8; 320]) -> usize
     ensures { λ r. ⌜ r ≡ fileSize head ⌝ }
 {
     four_bytes_at(head, 0) as usize
+}
+
+// What is asked for.
+pub fn what(head: [u8; 320]) -> u8
+    ensures { λ r. ⌜ r ≡ whatIn head ⌝ }
+{
+    head[111]
 }
 
 // The words of memory.

@@ -11,8 +11,8 @@ use borrow.Author.Needs.{needs}
 use Rattle.effects.proofs.arithmetic.subtract.Statement.{statement}
 use Rattle.effects.proofs.arithmetic.subtract.Tie as tie
 
-difference-requires : tie.Need-difference-requires
-difference-requires c κs =
+accumulator-difference-requires : tie.Need-accumulator-difference-requires
+accumulator-difference-requires c κs =
     let entry = c .before .before .before in
     let first : toZ w64 (ofZ w64 (c .before .before .value .result)) ≡ c .before .before .value .result = search needs in
     let second : toZ w64 (ofZ w64 (c .value2 .result)) ≡ c .value2 .result = search needs in
@@ -23,11 +23,11 @@ returns : tie.Need-returns
 returns c =
     let at-value = c .before .before .before .before in
     let at-other = c .before .before .before in
-    let apart : toZ w64 (ofZ w64 (c .before .difference .result)) ≡ c .before .difference .result = search needs in
+    let apart : toZ w64 (ofZ w64 (c .before .accumulator-difference .result)) ≡ c .before .accumulator-difference .result = search needs in
     let first : toZ w64 (ofZ w64 (at-value .value .result)) ≡ at-value .value .result = search needs in
     let second : toZ w64 (ofZ w64 (c .before .before .value2 .result)) ≡ c .before .before .value2 .result = search needs in
     λ w starts passes. c .results .ensures w
-    ∙ rw (apart, c .before .difference .ensures, first, second, at-value .value .ensures w starts passes, c .before .before .value2 .ensures w starts passes, at-other .other .ensures)
+    ∙ rw (apart, c .before .accumulator-difference .ensures, first, second, at-value .value .ensures w starts passes, c .before .before .value2 .ensures w starts passes, at-other .other .ensures)
 
 pub subtract-spec : {M : Type 1} → statement M
 subtract-spec =
@@ -36,6 +36,6 @@ subtract-spec =
     (λ c κs. search needs)
     (λ c κs. search needs)
     (λ c κs. search needs)
-    difference-requires
+    accumulator-difference-requires
     (λ c κs. search needs)
     returns)

@@ -19,8 +19,8 @@ plus-requires c κs =
     let p : toZ w64 (ofZ w64 (c .mac-product2 .result)) ≡ c .mac-product2 .result = search needs in
     (rw (v, at-before .value .ensures [] [] []) (by-target (entry .args .s) (entry .args .k .target) (entry .pre .0) (entry .pre .1)), rw (p) (c .mac-product2 .ensures .1))
 
-minus-requires : tie.Need-minus-requires
-minus-requires c κs =
+less-requires : tie.Need-less-requires
+less-requires c κs =
     let entry = c .before .before .before .before in
     let at-before = c .before .before .before in
     let v : toZ w64 (ofZ w64 (at-before .value .result)) ≡ at-before .value .result = search needs in
@@ -62,8 +62,8 @@ returns-4 c =
     let at-value = c .before .before .before .before in
     let v : toZ w64 (ofZ w64 (at-value .value .result)) ≡ at-value .value .result = search needs in
     let p : toZ w64 (ofZ w64 (c .before .mac-product3 .result)) ≡ c .before .mac-product3 .result = search needs in
-    let r : toZ w64 (ofZ w64 (c .minus .result)) ≡ c .minus .result = search needs in
-    λ starts passes. rw (c .before .before .enum-told4 .given .1, r, c .minus .ensures, v, p, at-value .value .ensures (now (entry .args .w)) starts passes, c .before .mac-product3 .ensures .0)
+    let r : toZ w64 (ofZ w64 (c .less .result)) ≡ c .less .result = search needs in
+    λ starts passes. rw (c .before .before .enum-told4 .given .1, r, c .less .ensures, v, p, at-value .value .ensures (now (entry .args .w)) starts passes, c .before .mac-product3 .ensures .0)
 
 returns-5 : tie.Need-returns-5
 unfolding macExact exactBy
@@ -98,7 +98,7 @@ mac-exact-spec =
     plus-requires
     (λ c. search needs)
     (λ c κs. search needs)
-    minus-requires
+    less-requires
     (λ c. search needs)
     (λ c κs. search needs)
     (λ c. search needs)

@@ -7,7 +7,7 @@ use Rattle.lines.proofs.line.combined_line.Tie as tie
 
 returns : tie.Need-returns
 unfolding combinedLine
-returns c = rw (c .before .before .before .before .before .answer .given .1) (at-start (then-text (c .before .before .append-sum .ensures) (c .append-end .ensures)) (search needs))
+returns c = rw (c .before .before .before .before .before .answer .given .1) (at-start (then-text (c .before .before .append-combined .ensures) (c .append-end .ensures)) (search needs))
 
 returns-2 : tie.Need-returns-2
 unfolding combinedLine

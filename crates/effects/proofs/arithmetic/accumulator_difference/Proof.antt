@@ -1,12 +1,12 @@
--- `arithmetic::difference` meets its contract: two numbers of 40 bits are less than 2^41 apart. Assumes nothing.
+-- `arithmetic::accumulator_difference` meets its contract: two numbers of 40 bits are less than 2^41 apart. Assumes nothing.
 use Prim.Native.Nat.{_-_, _^_, _<_}
 use mir.Facts.{toZ-ofZ}
 use lib.IntN.{_-ℤ_}
 use lib.Signed.{mag}
 use Rattle.integers.proofs.Whole.{whole, size, less}
 use Rattle.accumulator.proofs.Sizes.{accumulator-within}
-use Rattle.effects.proofs.arithmetic.difference.Statement.{statement}
-use Rattle.effects.proofs.arithmetic.difference.Tie as tie
+use Rattle.effects.proofs.arithmetic.accumulator_difference.Statement.{statement}
+use Rattle.effects.proofs.arithmetic.accumulator_difference.Tie as tie
 
 sub-result : tie.Need-sub-result
 sub-result c =
@@ -17,5 +17,5 @@ sub-result c =
 returns : tie.Need-returns
 returns c = rw (toZ-ofZ (sub-result c), toZ-ofZ (c .fits .x), toZ-ofZ (c .fits .y))
 
-pub difference-spec : {M : Type 1} → statement M
-difference-spec = tie.close (tie.spec sub-result returns)
+pub accumulator-difference-spec : {M : Type 1} → statement M
+accumulator-difference-spec = tie.close (tie.spec sub-result returns)

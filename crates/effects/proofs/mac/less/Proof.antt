@@ -1,12 +1,12 @@
--- `mac::minus` meets its contract: an accumulator and a product stay below 2^40. Assumes nothing.
+-- `mac::less` meets its contract: an accumulator and a product stay below 2^40. Assumes nothing.
 use Prim.Native.Nat.{_-_, _*_, _^_, _≤_, _<_}
 use mir.Facts.{toZ-ofZ}
 use lib.IntN.{natAbs, _-ℤ_}
 use lib.Signed.{mag}
 use Rattle.integers.proofs.Whole.{whole, size, less, abs-is}
 use Rattle.accumulator.proofs.Sizes.{accumulator-within}
-use Rattle.effects.proofs.mac.minus.Statement.{statement}
-use Rattle.effects.proofs.mac.minus.Tie as tie
+use Rattle.effects.proofs.mac.less.Statement.{statement}
+use Rattle.effects.proofs.mac.less.Tie as tie
 
 sub-result : tie.Need-sub-result
 sub-result c =
@@ -18,5 +18,5 @@ sub-result c =
 returns : tie.Need-returns
 returns c = rw (toZ-ofZ (sub-result c), toZ-ofZ (c .fits .v), toZ-ofZ (c .fits .p))
 
-pub minus-spec : {M : Type 1} → statement M
-minus-spec = tie.close (tie.spec sub-result returns)
+pub less-spec : {M : Type 1} → statement M
+less-spec = tie.close (tie.spec sub-result returns)
