@@ -210,8 +210,8 @@ pub fn filled_line(out: &mut [u8; LINE], verb: Verb, answer: Answer, slice: &[u8
     let check = check_bytes(0, slice);
     let past_name = append_answer(out, verb, answer.number());
     let past_bytes = append_number_field(out, past_name, answer.bytes() as u64);
-    let past_checked = append_long_field(out, past_bytes, check);
-    append_end(out, past_checked)
+    let past_check = append_long_field(out, past_bytes, check);
+    append_end(out, past_check)
 }
 
 // A combined sum: A, OA, SA.
@@ -285,8 +285,8 @@ pub fn service_text(
     let counts = check_longs(0, steps);
     let past_served = append_served(out, refusal);
     let past_fields = append_state(out, past_served, state, memory);
-    let past_checked = append_long_field(out, past_fields, codes);
-    append_long_field(out, past_checked, counts)
+    let past_codes = append_long_field(out, past_fields, codes);
+    append_long_field(out, past_codes, counts)
 }
 
 // The fields of a bag: its ending's code and its steps.

@@ -30,10 +30,10 @@ fn append_slots(out: &mut [u8; LINE], at: usize, starts: [usize; 4], passes: [u3
     requires { ⌜ at + 168 ≤ 640 ⌝ }
     ensures { λ r. ⌜ Appended at 168 (slotFields starts passes) (now (out .entry)) r (now (out .exit)) ⌝ }
 {
-    let past_second = append_slot(out, at, starts[0], passes[0]);
-    let past_third = append_slot(out, past_second, starts[1], passes[1]);
-    let past_fourth = append_slot(out, past_third, starts[2], passes[2]);
-    append_slot(out, past_fourth, starts[3], passes[3])
+    let past_first = append_slot(out, at, starts[0], passes[0]);
+    let past_second = append_slot(out, past_first, starts[1], passes[1]);
+    let past_third = append_slot(out, past_second, starts[2], passes[2]);
+    append_slot(out, past_third, starts[3], passes[3])
 }
 
 // A, B, SR.

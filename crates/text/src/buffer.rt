@@ -9,7 +9,7 @@ ghost use Rattle.text.specs.Buffer.{Appended};
 // of the state and the memory's check, 2 of the set, 21 of the registers' check, 189 of the task counts, 1 of the line's end.
 pub const LINE: usize = 640;
 
-// There are 640: a lent array's list is of any length in a proof, and a copy's is not.
+// A buffer has 640 bytes. A proof knows the length of an array that is passed, not of one that is lent.
 fn whole(out: [u8; LINE]) -> bool
     ensures { λ _. ⌜ length out ≡ 640 ⌝ }
 {

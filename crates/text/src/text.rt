@@ -43,7 +43,7 @@ pub fn append_number(out: &mut [u8; LINE], at: usize, n: u64) -> usize
     append(out, at, &text[start..])
 }
 
-// n both of n and of -(n + 1).
+// The n of a number that is n or -(n + 1).
 pub fn magnitude(v: i64) -> u64
     ensures { λ r. ⌜ r ≡ mag v ⌝ }
 {
