@@ -1,5 +1,5 @@
 #!/usr/bin/env bash
-# Ten million MAC steps by the proved engine and by the Rust interpreter of docs/src on the same case, both optimised, by turns, three times each.
+# Ten million MAC steps or bit-reversed stores by the proved engine and by the Rust interpreter of docs/src on the same case, both optimised, by turns, three times each.
 set -euo pipefail
 cd "$(dirname "$0")/../.."
 export PATH="$HOME/.cargo/bin:$PATH"
@@ -16,7 +16,7 @@ timed() { # PROGRAM CASE
 }
 
 printf '%-8s %8s %8s %6s\n' case proved rust ratio
-for case in repeat loop; do
+for case in repeat loop reversed; do
     for turn in 1 2 3; do
         timed target/bin/cases "$case"
         proved=$seconds said=$line

@@ -1,6 +1,6 @@
 -- Rows G and H of the paper's table, and edge cases, by computation of the definitions that the contracts cite. Assumes nothing.
 use mathlib.Core.Path.{_≡_, refl}
-use Prim.Native.Nat.{ℕ}
+use Prim.Native.Nat.{ℕ, _+_, _*_, _<_}
 use lib.IntN.{pos}
 use Rattle.integers.specs.Floor.{remainderOf}
 use Rattle.integers.specs.Bits.{lowBits}
@@ -10,6 +10,7 @@ use Rattle.address.specs.Word.{addressOf, wordOf}
 use Rattle.address.specs.Region.{xPart, yPart, allWords, isInside, accessTrap}
 use Rattle.address.specs.Step.{addressSum, steppedOf, correctedOf, circularOf}
 use Rattle.address.specs.Reversal.{rev, widthUpTo, widthOf, indexOf, nextIndex, nextOf}
+use Rattle.address.specs.Round.{addressAfter, addressAtIndex, Round}
 
 -- the buffer S..E
 abbrev bytes : ℕ → ℕ → Buffer
@@ -97,3 +98,32 @@ bit-reversed :
     × (nextOf 12 0x1200 ≡ 0x1200)
 unfolding nextOf indexOf nextIndex widthOf widthUpTo rev
 bit-reversed = (refl, refl, refl, refl, refl)
+
+-- ten bits, and fewer: the bits of 1, of 6 and of 0x155
+reversals : (rev 10 1 ≡ 0x200) × (rev 3 6 ≡ 3) × (rev 10 6 ≡ 0x180) × (rev 10 0x155 ≡ 0x2aa)
+unfolding rev
+reversals = (refl, refl, refl, refl)
+
+-- the round of N 4 from its second word on: indices 1, 3, 0, 2 and 1 again
+round-of-four :
+    (addressAfter 4 0 0x1002 ≡ 0x1002)
+    × (addressAfter 4 1 0x1002 ≡ 0x1006)
+    × (addressAfter 4 2 0x1002 ≡ 0x1000)
+    × (addressAfter 4 3 0x1002 ≡ 0x1004)
+    × (addressAfter 4 4 0x1002 ≡ 0x1002)
+unfolding addressAfter nextOf indexOf nextIndex widthOf widthUpTo rev
+round-of-four = (refl, refl, refl, refl, refl)
+
+-- the first and the last of 4 words, from one between them, and from its second byte
+indices : (addressAtIndex 4 0x1002 0 ≡ 0x1000) × (addressAtIndex 4 0x1002 3 ≡ 0x1006) × (addressAtIndex 4 0x100b 0 ≡ 0x1009)
+unfolding addressAtIndex indexOf
+indices = (refl, refl, refl)
+
+-- what the round of N 4 from its second word on says: each of the words at 1000 to 1006 hex, no two steps at one word, and back after 4
+round-says :
+    Round 4 0x1002
+    → ((i : ℕ) → i < 4 → (m : ℕ) × (m < 4) × (addressAfter 4 m 0x1002 ≡ 0x1000 + 2 * i))
+    × ((m k : ℕ) → m < 4 → k < 4 → addressAfter 4 m 0x1002 ≡ addressAfter 4 k 0x1002 → m ≡ k)
+    × (addressAfter 4 4 0x1002 ≡ 0x1002)
+unfolding addressAfter addressAtIndex nextOf indexOf nextIndex widthOf widthUpTo rev
+round-says r = (r .visits, r .once, r .back)

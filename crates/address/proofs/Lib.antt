@@ -3,6 +3,7 @@ pub mod Examples
 pub mod Words
 pub mod Regions
 pub mod Steps
-pub mod Entries
 pub mod Widths
 pub mod Reversals
+pub mod Fields
+pub mod Rounds

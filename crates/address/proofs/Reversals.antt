@@ -1,31 +1,19 @@
--- The reversal: its table at every entry and every shorter width, its bits, the next address: by induction over the width. Assumes nothing.
+-- The reversal: it splits anywhere, reads its own bits alone, undoes itself; its bits; the index and the next address: by induction over the width.
+-- Assumes nothing.
 use mathlib.Core.Path.{_≡_, refl, sym, ap, _∙_}
 use mathlib.Core.Bool.{Bool, true, false}
 use Prim.Native.Nat.{ℕ, zero, suc, _+_, _*_, _-_, _/_, _%_, _^_, _≤_, _<_}
 use native.Mathlib.Nat.{mod-lt, mod-le, div-add-mod', div-lt-iff-lt-mul, pow-succ', pow-suc}
-use native.Mathlib.Nat.{suc-add, zero-add, add-sub-of-le, add-mul, mul-assoc, mul-le-mul-right}
+use native.Mathlib.Nat.{suc-add, zero-add, zero-mul, div-one, add-assoc, add-mul, mul-assoc, mul-le-mul-right}
 use native.Mathlib.Omega.{arith}
 use borrow.Author.Tests.{ltb-true, ltb-false, eqb-true, not-false}
 use lib.Dec.{eqb, ltb, lit<}
-use lib.ListN.{getD}
 use lib.Bits.{bitAnd, and-mask}
-use lib.Pow.{pow-pos, pow-add, shl-shr, high, low, field, shr-shr, mod-mod-pow}
-use Rattle.address.specs.Reversal.{rev, reversalTable, widthOf, isPower, indexOf, nextIndex, nextOf}
-use Rattle.address.proofs.Entries.{at}
+use lib.Pow.{pow-pos, pow-add, high, low, field, shr-shr, mod-mod-pow}
+use Rattle.address.specs.Reversal.{rev, widthOf, isPower, indexOf, nextIndex, nextOf}
 use Rattle.address.proofs.Widths.{width-le, width-power}
 
--- ---- the table
-
-pub entry : (j : ℕ) → j < 1024 → getD reversalTable j 0 ≡ rev 10 j
-unfolding reversalTable
-entry j h = at (λ (i : ℕ). rev 10 i) 1024 j h
-
--- ---- shorter widths, by a shift
-
-rev-zero : (b : ℕ) → rev b 0 ≡ 0
-unfolding rev
-rev-zero zero = refl
-rev-zero (suc b) = omega (arith, rev-zero b)
+-- ---- the reversal of b bits
 
 pub rev-below : (b j : ℕ) → rev b j < 2 ^ b
 unfolding rev
@@ -34,20 +22,47 @@ rev-below (suc b) j =
     let top : j % 2 * 2 ^ b ≤ 1 * 2 ^ b = mul-le-mul-right (2 ^ b) (omega arith) in
     omega (arith, pow-suc 2 b, rev-below b (j / 2))
 
--- d bits more, all zero, put d zeros below
-rev-wider : (b d j : ℕ) → j < 2 ^ b → rev (b + d) j ≡ rev b j * 2 ^ d
+-- the low a bits are reversed to the top, the b above them below that
+pub rev-split : (a b j : ℕ) → rev (a + b) j ≡ rev a j * 2 ^ b + rev b (j / 2 ^ a)
 unfolding rev
-rev-wider zero d j h =
-    let none : j ≡ 0 = omega arith in
-    rw (zero-add, none, rev-zero) (omega arith)
-rev-wider (suc b) d j h =
-    let half : j / 2 < 2 ^ b = omega (arith, pow-suc 2 b) in
-    rw (suc-add b d, rev-wider b d (j / 2) half, pow-add 2 b d, add-mul, mul-assoc)
+rev-split zero b j = rw (zero-add b, div-one j, zero-mul (2 ^ b), zero-add (rev b j))
+rev-split (suc a) b j =
+    let one-more : suc a ≡ 1 + a = omega arith in
+    let above : j / 2 / 2 ^ a ≡ j / 2 ^ suc a = rw one-more (shr-shr j 1 a) in
+    rw (suc-add a b, rev-split a b (j / 2), pow-add 2 a b, add-mul, mul-assoc, above) (sym (add-assoc _ _ _))
 
-pub rev-shorter : (b j : ℕ) → b ≤ 10 → j < 2 ^ b → rev 10 j / 2 ^ (10 - b) ≡ rev b j
-rev-shorter b j h l =
-    let wide : rev 10 j ≡ rev b j * 2 ^ (10 - b) = ap (λ (w : ℕ). rev w j) (sym (add-sub-of-le h)) ∙ rev-wider b (10 - b) j l in
-    rw wide (shl-shr (rev b j) (10 - b))
+-- bits above the b are not read
+pub rev-low : (b j : ℕ) → rev b (j % 2 ^ b) ≡ rev b j
+unfolding rev
+rev-low zero j = refl
+rev-low (suc b) j =
+    let one-more : suc b ≡ b + 1 = omega arith in
+    let lowest : j % 2 ^ suc b % 2 ≡ j % 2 = rw one-more (mod-mod-pow j b 1) in
+    let rest : j % 2 ^ suc b / 2 ≡ j / 2 % 2 ^ b = rw one-more (field j b 1) in
+    rw (lowest, rest, rev-low b (j / 2))
+
+rev-first : (b j : ℕ) → rev (suc b) j ≡ j % 2 * 2 ^ b + rev b (j / 2)
+unfolding rev
+rev-first b j = refl
+
+pub rev-one : (j : ℕ) → rev 1 j ≡ j % 2
+unfolding rev
+rev-one j = omega arith
+
+-- rev of rev is the number itself
+pub rev-rev : (b j : ℕ) → j < 2 ^ b → rev b (rev b j) ≡ j
+rev-rev zero j h = omega (arith, rev-below 0 (rev 0 j), h)
+rev-rev (suc b) j h =
+    let half = j / 2 in
+    let turned = j % 2 * 2 ^ b + rev b half in
+    let one-more : suc b ≡ b + 1 = omega arith in
+    let parts : rev (suc b) turned ≡ rev b turned * 2 + rev 1 (turned / 2 ^ b) = rw one-more (rev-split b 1 turned) in
+    let below : rev b turned ≡ half =
+    sym (rev-low b turned)
+    ∙ ap (λ (x : ℕ). rev b x) (low (j % 2) b (rev-below b half))
+    ∙ rev-rev b half (omega (arith, pow-suc 2 b)) in
+    let top : rev 1 (turned / 2 ^ b) ≡ j % 2 % 2 = rw (high (j % 2) b (rev-below b half)) (rev-one (j % 2)) in
+    rw (rev-first b j) (omega (arith, parts, below, top))
 
 -- ---- the bits: bit i of rev b j is bit b - 1 - i of j
 

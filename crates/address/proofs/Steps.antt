@@ -64,21 +64,24 @@ pub elsewhere :
 unfolding circularOf steppedOf
 elsewhere buffer old step h = rw h
 
--- what the code knows where the old address is within: its locals `bytes` and `to` are E − S + 1 and the unreduced sum
-pub record Known (buffer : Buffer) (old : ℕ) (step bytes to : ℤ) : Type 0 where
+-- what the code knows where the old address is within: its local `to` is the unreduced sum
+pub record Known (buffer : Buffer) (old : ℕ) (step to : ℤ) : Type 0 where
   pub within : isWithin (buffer .start .0) (buffer .last .0) old ≡ true
   pub start : Fits w16 (buffer .start .0)
   pub last : Fits w16 (buffer .last .0)
   pub small : mag (pos old +ℤ step) < 2 ^ 17
-  pub bytes-is : toZ w64 (ofZ w64 bytes) ≡ sizeOf (buffer .start .0) (buffer .last .0)
   pub to-is : toZ w64 (ofZ w64 to) ≡ pos old +ℤ step
 
-module _ {buffer : Buffer} {old : ℕ} {step bytes to : ℤ} (k : Known buffer old step bytes to) where
-  pub less-bytes-fits : SFits w64 (toZ w64 (ofZ w64 to) -ℤ toZ w64 (ofZ w64 bytes))
-  less-bytes-fits = rw (k .to-is, k .bytes-is) (less-fits (pos old +ℤ step) (sizeOf (buffer .start .0) (buffer .last .0)) (k .small) (size-small (k .start) (k .last)))
+-- and where it has worked out the buffer's bytes
+abbrev pub Sized : Buffer → ℤ → Type 0
+Sized buffer bytes = toZ w64 (ofZ w64 bytes) ≡ sizeOf (buffer .start .0) (buffer .last .0)
 
-  pub more-bytes-fits : SFits w64 (toZ w64 (ofZ w64 to) +ℤ toZ w64 (ofZ w64 bytes))
-  more-bytes-fits = rw (k .to-is, k .bytes-is) (more-fits (pos old +ℤ step) (sizeOf (buffer .start .0) (buffer .last .0)) (k .small) (size-small (k .start) (k .last)))
+module _ {buffer : Buffer} {old : ℕ} {step to : ℤ} (k : Known buffer old step to) where
+  pub less-bytes-fits : (bytes : ℤ) → Sized buffer bytes → SFits w64 (toZ w64 (ofZ w64 to) -ℤ toZ w64 (ofZ w64 bytes))
+  less-bytes-fits bytes n = rw (k .to-is, n) (less-fits (pos old +ℤ step) (sizeOf (buffer .start .0) (buffer .last .0)) (k .small) (size-small (k .start) (k .last)))
+
+  pub more-bytes-fits : (bytes : ℤ) → Sized buffer bytes → SFits w64 (toZ w64 (ofZ w64 to) +ℤ toZ w64 (ofZ w64 bytes))
+  more-bytes-fits bytes n = rw (k .to-is, n) (more-fits (pos old +ℤ step) (sizeOf (buffer .start .0) (buffer .last .0)) (k .small) (size-small (k .start) (k .last)))
 
   -- the code's tests are the definition's
   last-test : ltZ (toZ w64 (buffer .last .0)) (toZ w64 (ofZ w64 to)) ≡ ltZ (pos (buffer .last .0)) (pos old +ℤ step)
@@ -88,17 +91,19 @@ module _ {buffer : Buffer} {old : ℕ} {step bytes to : ℤ} (k : Known buffer o
   start-test = rw (k .to-is, word-plain (k .start))
 
   pub above :
-      ltZ (toZ w64 (buffer .last .0)) (toZ w64 (ofZ w64 to)) ≡ true
+      (bytes : ℤ) → Sized buffer bytes
+      → ltZ (toZ w64 (buffer .last .0)) (toZ w64 (ofZ w64 to)) ≡ true
       → lowBits 16 (toZ w64 (ofZ w64 (toZ w64 (ofZ w64 to) -ℤ toZ w64 (ofZ w64 bytes)))) ≡ circularOf buffer old step
   unfolding circularOf correctedOf
-  above t = rw (toZ-ofZ less-bytes-fits, k .to-is, k .bytes-is, k .within, sym last-test ∙ t)
+  above bytes n t = rw (toZ-ofZ (less-bytes-fits bytes n), k .to-is, n, k .within, sym last-test ∙ t)
 
   pub below :
-      ltZ (toZ w64 (buffer .last .0)) (toZ w64 (ofZ w64 to)) ≡ false
+      (bytes : ℤ) → Sized buffer bytes
+      → ltZ (toZ w64 (buffer .last .0)) (toZ w64 (ofZ w64 to)) ≡ false
       → ltZ (toZ w64 (ofZ w64 to)) (toZ w64 (buffer .start .0)) ≡ true
       → lowBits 16 (toZ w64 (ofZ w64 (toZ w64 (ofZ w64 to) +ℤ toZ w64 (ofZ w64 bytes)))) ≡ circularOf buffer old step
   unfolding circularOf correctedOf
-  below t u = rw (toZ-ofZ more-bytes-fits, k .to-is, k .bytes-is, k .within, sym last-test ∙ t, sym start-test ∙ u)
+  below bytes n t u = rw (toZ-ofZ (more-bytes-fits bytes n), k .to-is, n, k .within, sym last-test ∙ t, sym start-test ∙ u)
 
   pub between :
       ltZ (toZ w64 (buffer .last .0)) (toZ w64 (ofZ w64 to)) ≡ false

@@ -1,6 +1,5 @@
 -- Bit-reversed register with N words: N = 2 ^ b, and b is the width of an index.
 use mathlib.Core.Bool.{Bool, cond, not}
-use mathlib.Core.List.{List, [], _∷_}
 use Prim.Native.Nat.{ℕ, zero, suc, _+_, _*_, _-_, _/_, _%_, _^_}
 use lib.Dec.{eqb}
 
@@ -8,15 +7,6 @@ use lib.Dec.{eqb}
 unfoldable pub rev : ℕ → ℕ → ℕ
 rev zero j = 0
 rev (suc b) j = j % 2 * 2 ^ b + rev b (j / 2)
-
--- f i, f (i + 1), .. : n numbers
-abbrev pub valuesFrom : (ℕ → ℕ) → ℕ → ℕ → List ℕ
-valuesFrom f i zero = []
-valuesFrom f i (suc n) = f i ∷ valuesFrom f (suc i) n
-
--- a table of the 1,024 reversals of ten bits
-unfoldable pub reversalTable : List ℕ
-reversalTable = valuesFrom (λ (j : ℕ). rev 10 j) 0 1024
 
 -- the b of 1 .. top with n = 2 ^ b; 0 where there is none
 unfoldable pub widthUpTo : ℕ → ℕ → ℕ

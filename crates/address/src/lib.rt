@@ -3,5 +3,4 @@
 pub mod region;
 pub mod reversal;
 pub mod step;
-mod table;
 pub mod word;

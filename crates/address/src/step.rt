@@ -71,12 +71,11 @@ pub fn circular(buffer: Buffer, old: ByteAddress, step: i16) -> ByteAddress
     let e = last.0;
     let at = old.0;
     if (s <= at) & (at <= e) {
-        let bytes = size(start, last);
         let to = unreduced(old, step);
         if (e as i64) < to {
-            ByteAddress(low_word(to - bytes))
+            ByteAddress(low_word(to - size(start, last)))
         } else if to < s as i64 {
-            ByteAddress(low_word(to + bytes))
+            ByteAddress(low_word(to + size(start, last)))
         } else {
             stepped(old, step)
         }

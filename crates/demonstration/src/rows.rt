@@ -99,11 +99,10 @@ fn print_addresses() {
     };
     line(b"G");
     print_address(step::circular(buffer, ByteAddress(0x1106), 4));
-    let table = reversal::reversals();
     line(b"H");
-    let second = reversal::next(&table, 8, ByteAddress(0x1200));
+    let second = reversal::next(8, ByteAddress(0x1200));
     print_address(second);
-    print_address(reversal::next(&table, 8, second));
+    print_address(reversal::next(8, second));
 }
 
 pub fn print_rows() {

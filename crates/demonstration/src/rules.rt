@@ -14,8 +14,6 @@ use address::region::trap;
 use address::reversal;
 use address::step;
 use address::word::ByteAddress;
-ghost use mathlib.Core.Path.{_≡_};
-ghost use Rattle.address.specs.Reversal.{reversalTable};
 
 pub fn product_case(h: u64, x: u64, y: u64) -> u64 {
     let mode = Mode::of(draw::mode_word(x));
@@ -101,9 +99,7 @@ pub fn step_case(h: u64, x: u64, y: u64) -> u64 {
     draw::checked(draw::checked(h, plain.0 as u64), circular.0 as u64)
 }
 
-pub fn reversal_case(table: &[u16; 1024], h: u64, x: u64, y: u64) -> u64
-    requires { ⌜ now table ≡ reversalTable ⌝ }
-{
-    let next = reversal::next(table, draw::power(x), ByteAddress(draw::word(y)));
+pub fn reversal_case(h: u64, x: u64, y: u64) -> u64 {
+    let next = reversal::next(draw::power(x), ByteAddress(draw::word(y)));
     draw::checked(h, next.0 as u64)
 }

@@ -16,7 +16,6 @@ use operations::operation::WriteBack;
 use state::settings::Circular;
 use state::settings::Settings;
 ghost use mathlib.Core.Path.{_≡_};
-ghost use Rattle.address.specs.Reversal.{reversalTable};
 ghost use Rattle.effects.specs.Access.{noAccess, direct, accessAt, operandAccess, regionOf, circularFor, sumAddress, prefetchAccess, backAccess, wordAt};
 
 // The two data spaces.
@@ -81,16 +80,14 @@ pub fn operand_access(
     operand: Operand,
     w: &[u16; 14],
     words: usize,
-    table: &[u16; 1024],
 ) -> Access
-    requires { ⌜ now table ≡ reversalTable ⌝ }
     ensures { λ r. ⌜ r ≡ operandAccess settings purpose operand (now (w .entry)) words ⌝ }
 {
     match operand {
         Operand::Register(r) => direct(r),
         Operand::Memory { pointer, post } => {
             let a = ByteAddress(register(w, pointer));
-            let change = change_of(settings, purpose, post, pointer, a, table);
+            let change = change_of(settings, purpose, post, pointer, a);
             access_at(Region::all(words), a, change)
         }
     }

@@ -22,7 +22,6 @@ ghost use mathlib.Core.List.{List};
 ghost use mathlib.Core.Path.{_≡_};
 ghost use Prim.Native.Nat.{ℕ};
 ghost use Rattle.accumulator.specs.Limit.{isAccumulator};
-ghost use Rattle.address.specs.Reversal.{reversalTable};
 ghost use Rattle.operations.specs.Listed.{isListed};
 ghost use Rattle.effects.specs.Effect.{blocked, quiet, results, stores};
 ghost use Rattle.effects.specs.Operations.{loopWork, workOf};
@@ -106,12 +105,10 @@ pub fn effect_of(
     s: Scalars,
     w: &mut [u16; 14],
     memory: &[u16],
-    table: &[u16; 1024],
 ) -> Effect
     requires { ⌜ isListed operation ≡ true ⌝ }
     requires { ⌜ isAccumulator (s .a) ≡ true ⌝ }
     requires { ⌜ isAccumulator (s .b) ≡ true ⌝ }
-    requires { ⌜ now table ≡ reversalTable ⌝ }
     ensures { λ r. ⌜ ((starts passes : List ℕ) → workIn (now (w .exit)) r ≡ workOf settings mode operation (coreOf (now (w .entry)) starts passes s) (now (memory .entry))) ⌝ }
 {
     let n = memory.len();
@@ -125,14 +122,14 @@ pub fn effect_of(
             target,
             shift,
             from,
-        } => load_accumulator(settings, target, shift, from, w, memory, table),
+        } => load_accumulator(settings, target, shift, from, w, memory),
         Operation::Add {
             target,
             shift,
             from,
-        } => add_operand(settings, target, shift, from, s, w, memory, table),
-        Operation::Sac { target, shift, to } => sac(settings, target, shift, to, s, w, n, table),
-        Operation::SacR { target, shift, to } => sac_r(settings, target, shift, to, s, w, n, table),
+        } => add_operand(settings, target, shift, from, s, w, memory),
+        Operation::Sac { target, shift, to } => sac(settings, target, shift, to, s, w, n),
+        Operation::SacR { target, shift, to } => sac_r(settings, target, shift, to, s, w, n),
         Operation::Literal { to, value } => stores(Place::Register(to), Value::Word(value)),
         Operation::Load { to, pointer, post } => load_register(
             settings,
@@ -141,13 +138,12 @@ pub fn effect_of(
             post,
             w,
             memory,
-            table,
         ),
         Operation::Store {
             from,
             pointer,
             post,
-        } => store_register(settings, from, pointer, post, w, n, table),
+        } => store_register(settings, from, pointer, post, w, n),
         Operation::Repeat { .. } => quiet(),
         Operation::RepeatRegister { .. } => quiet(),
         Operation::Do { .. } => begin_loop(s.depth),

@@ -8,7 +8,6 @@ use operations::operation::PostModification;
 use state::settings::Circular;
 use state::settings::Settings;
 ghost use mathlib.Core.Path.{_≡_};
-ghost use Rattle.address.specs.Reversal.{reversalTable};
 ghost use Rattle.effects.specs.Pointer.{movedOf, stepOf, raisedOf, changeOf};
 ghost use Rattle.effects.specs.Access.{changed};
 
@@ -43,14 +42,7 @@ pub fn step_of(c: u8) -> i16
 }
 
 // The address a of register r, two bytes on or, in a store by the bit-reversed register, at the next index.
-fn raised(
-    settings: Settings,
-    purpose: Purpose,
-    r: u8,
-    a: ByteAddress,
-    table: &[u16; 1024],
-) -> ByteAddress
-    requires { ⌜ now table ≡ reversalTable ⌝ }
+fn raised(settings: Settings, purpose: Purpose, r: u8, a: ByteAddress) -> ByteAddress
     ensures { λ x. ⌜ x .0 ≡ raisedOf settings purpose r (a .0) ⌝ }
 {
     let reversed = settings.reversed;
@@ -58,7 +50,7 @@ fn raised(
         Purpose::Read => moved(settings.x, r, a, 2),
         Purpose::Store => {
             if r == reversed.register {
-                next(table, reversed.words, a)
+                next(reversed.words, a)
             } else {
                 moved(settings.x, r, a, 2)
             }
@@ -73,16 +65,14 @@ pub fn change_of(
     post: PostModification,
     r: u8,
     a: ByteAddress,
-    table: &[u16; 1024],
 ) -> Change
-    requires { ⌜ now table ≡ reversalTable ⌝ }
     ensures { λ x. ⌜ x ≡ changeOf settings purpose post r (a .0) ⌝ }
 {
     match post {
         PostModification::None => Change::None,
         PostModification::Increment => Change::To {
             register: r,
-            address: raised(settings, purpose, r, a, table),
+            address: raised(settings, purpose, r, a),
         },
         PostModification::Decrement => Change::To {
             register: r,

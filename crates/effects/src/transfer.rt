@@ -1,5 +1,4 @@
 // Kinds 12 to 15, 17 and 18: accumulators and registers loaded from and stored to an operand.
-use crate::access::Access;
 use crate::access::Place;
 use crate::access::operand_access;
 use crate::access::word_at;
@@ -26,7 +25,6 @@ ghost use lib.IntN.{pos};
 ghost use lib.ListN.{length};
 ghost use Rattle.accumulator.specs.Limit.{isAccumulator};
 ghost use Rattle.accumulator.specs.Shift.{shiftOf};
-ghost use Rattle.address.specs.Reversal.{reversalTable};
 ghost use Rattle.operations.specs.declared.operation.Operand.the-variants.{Memory};
 ghost use Rattle.state.specs.State.{register, accumulatorOf};
 ghost use Rattle.effects.specs.Operations.{byteShift, loadedValue, loadWork, storeWork, scaledOf, moveWork};
@@ -66,14 +64,12 @@ fn load_to(
     from: Operand,
     w: &mut [u16; 14],
     memory: &[u16],
-    table: &[u16; 1024],
 ) -> Effect
     requires { ⌜ isAccumulator v ≡ true ⌝ }
     requires { ⌜ b2 < 16 ⌝ }
-    requires { ⌜ now table ≡ reversalTable ⌝ }
     ensures { λ r. ⌜ ((starts passes : List ℕ) (s : Scalars) → workIn (now (w .exit)) r ≡ loadWork settings target v b2 from (coreOf (now (w .entry)) starts passes s) (now (memory .entry))) ⌝ }
 {
-    let access = operand_access(settings, Purpose::Read, from, w, memory.len(), table);
+    let access = operand_access(settings, Purpose::Read, from, w, memory.len());
     let trap = access.trap;
     if trap != 0 {
         return blocked(trap);
@@ -94,13 +90,11 @@ pub fn load_accumulator(
     from: Operand,
     w: &mut [u16; 14],
     memory: &[u16],
-    table: &[u16; 1024],
 ) -> Effect
     requires { ⌜ b2 < 16 ⌝ }
-    requires { ⌜ now table ≡ reversalTable ⌝ }
     ensures { λ r. ⌜ ((starts passes : List ℕ) (s : Scalars) → workIn (now (w .exit)) r ≡ loadWork settings target (pos 0) b2 from (coreOf (now (w .entry)) starts passes s) (now (memory .entry))) ⌝ }
 {
-    load_to(settings, target, 0, b2, from, w, memory, table)
+    load_to(settings, target, 0, b2, from, w, memory)
 }
 
 // 13: ADD.
@@ -112,16 +106,14 @@ pub fn add_operand(
     s: Scalars,
     w: &mut [u16; 14],
     memory: &[u16],
-    table: &[u16; 1024],
 ) -> Effect
     requires { ⌜ b2 < 16 ⌝ }
     requires { ⌜ isAccumulator (s .a) ≡ true ⌝ }
     requires { ⌜ isAccumulator (s .b) ≡ true ⌝ }
-    requires { ⌜ now table ≡ reversalTable ⌝ }
     ensures { λ r. ⌜ ((starts passes : List ℕ) → workIn (now (w .exit)) r ≡ loadWork settings target (accumulatorOf (coreOf (now (w .entry)) starts passes s) target) b2 from (coreOf (now (w .entry)) starts passes s) (now (memory .entry))) ⌝ }
 {
     let v = s.value(target);
-    load_to(settings, target, v, b2, from, w, memory, table)
+    load_to(settings, target, v, b2, from, w, memory)
 }
 
 // A value to an operand.
@@ -131,12 +123,10 @@ fn store_to(
     value: Value,
     w: &mut [u16; 14],
     words: usize,
-    table: &[u16; 1024],
 ) -> Effect
-    requires { ⌜ now table ≡ reversalTable ⌝ }
     ensures { λ r. ⌜ ((starts passes memory : List ℕ) (s : Scalars) → length memory ≡ words → workIn (now (w .exit)) r ≡ storeWork settings to value (coreOf (now (w .entry)) starts passes s) memory) ⌝ }
 {
-    let access = operand_access(settings, Purpose::Store, to, w, words, table);
+    let access = operand_access(settings, Purpose::Store, to, w, words);
     let trap = access.trap;
     if trap != 0 {
         return blocked(trap);
@@ -157,16 +147,14 @@ fn store_accumulator(
     s: Scalars,
     w: &mut [u16; 14],
     words: usize,
-    table: &[u16; 1024],
 ) -> Effect
     requires { ⌜ b2 < 16 ⌝ }
     requires { ⌜ isAccumulator (s .a) ≡ true ⌝ }
     requires { ⌜ isAccumulator (s .b) ≡ true ⌝ }
-    requires { ⌜ now table ≡ reversalTable ⌝ }
     ensures { λ r. ⌜ ((starts passes memory : List ℕ) → length memory ≡ words → workIn (now (w .exit)) r ≡ storeWork settings to (Scaled round (scaledOf (coreOf (now (w .entry)) starts passes s) target b2)) (coreOf (now (w .entry)) starts passes s) memory) ⌝ }
 {
     let v = scaled(s.value(target), b2);
-    store_to(settings, to, Value::Scaled { round, v }, w, words, table)
+    store_to(settings, to, Value::Scaled { round, v }, w, words)
 }
 
 // 14: SAC, truncated.
@@ -178,15 +166,13 @@ pub fn sac(
     s: Scalars,
     w: &mut [u16; 14],
     words: usize,
-    table: &[u16; 1024],
 ) -> Effect
     requires { ⌜ b2 < 16 ⌝ }
     requires { ⌜ isAccumulator (s .a) ≡ true ⌝ }
     requires { ⌜ isAccumulator (s .b) ≡ true ⌝ }
-    requires { ⌜ now table ≡ reversalTable ⌝ }
     ensures { λ r. ⌜ ((starts passes memory : List ℕ) → length memory ≡ words → workIn (now (w .exit)) r ≡ storeWork settings to (Scaled false (scaledOf (coreOf (now (w .entry)) starts passes s) target b2)) (coreOf (now (w .entry)) starts passes s) memory) ⌝ }
 {
-    store_accumulator(settings, false, target, b2, to, s, w, words, table)
+    store_accumulator(settings, false, target, b2, to, s, w, words)
 }
 
 // 15: SAC.R, rounded.
@@ -198,15 +184,13 @@ pub fn sac_r(
     s: Scalars,
     w: &mut [u16; 14],
     words: usize,
-    table: &[u16; 1024],
 ) -> Effect
     requires { ⌜ b2 < 16 ⌝ }
     requires { ⌜ isAccumulator (s .a) ≡ true ⌝ }
     requires { ⌜ isAccumulator (s .b) ≡ true ⌝ }
-    requires { ⌜ now table ≡ reversalTable ⌝ }
     ensures { λ r. ⌜ ((starts passes memory : List ℕ) → length memory ≡ words → workIn (now (w .exit)) r ≡ storeWork settings to (Scaled true (scaledOf (coreOf (now (w .entry)) starts passes s) target b2)) (coreOf (now (w .entry)) starts passes s) memory) ⌝ }
 {
-    store_accumulator(settings, true, target, b2, to, s, w, words, table)
+    store_accumulator(settings, true, target, b2, to, s, w, words)
 }
 
 // 17: load to a register.
@@ -217,13 +201,11 @@ pub fn load_register(
     post: PostModification,
     w: &mut [u16; 14],
     memory: &[u16],
-    table: &[u16; 1024],
 ) -> Effect
-    requires { ⌜ now table ≡ reversalTable ⌝ }
     ensures { λ r. ⌜ ((starts passes : List ℕ) (s : Scalars) → workIn (now (w .exit)) r ≡ moveWork settings to pointer post (coreOf (now (w .entry)) starts passes s) (now (memory .entry))) ⌝ }
 {
     let from = Operand::Memory { pointer, post };
-    let access = operand_access(settings, Purpose::Read, from, w, memory.len(), table);
+    let access = operand_access(settings, Purpose::Read, from, w, memory.len());
     let trap = access.trap;
     if trap != 0 {
         return blocked(trap);
@@ -243,12 +225,10 @@ pub fn store_register(
     post: PostModification,
     w: &mut [u16; 14],
     words: usize,
-    table: &[u16; 1024],
 ) -> Effect
-    requires { ⌜ now table ≡ reversalTable ⌝ }
     ensures { λ r. ⌜ ((starts passes memory : List ℕ) (s : Scalars) → length memory ≡ words → workIn (now (w .exit)) r ≡ storeWork settings (Memory pointer post) (Word (register (now (w .entry)) from)) (coreOf (now (w .entry)) starts passes s) memory) ⌝ }
 {
     let to = Operand::Memory { pointer, post };
     let word = register(w, from);
-    store_to(settings, to, Value::Word(word), w, words, table)
+    store_to(settings, to, Value::Word(word), w, words)
 }

@@ -1,7 +1,6 @@
 // The run of an accepted program.
 use crate::ending::Ending;
 use crate::outcome::Outcome;
-use address::reversal::reversals;
 use effects::scalars::Scalars;
 use effects::scalars::scalars_of;
 use effects::scalars::state_of;
@@ -53,7 +52,6 @@ pub fn run_accepted(
     let mut w = core.w;
     let mut starts = loops.starts;
     let mut passes = loops.passes;
-    let table = reversals();
     let mut s = scalars_of(state);
     let mut steps: u32 = 0;
     loop {
@@ -64,16 +62,7 @@ pub fn run_accepted(
         if steps == budget {
             return ended(Ending::Spent, steps, s, w, starts, passes);
         }
-        let r = step(
-            file,
-            settings,
-            s,
-            &mut w,
-            &mut starts,
-            &mut passes,
-            memory,
-            &table,
-        );
+        let r = step(file, settings, s, &mut w, &mut starts, &mut passes, memory);
         let after = r.scalars;
         s = after;
         let trap = r.trap;

@@ -1,6 +1,5 @@
 // One step as a call that asks nothing.
 use crate::step::step;
-use address::reversal::reversals;
 use effects::scalars::scalars_of;
 use effects::scalars::state_of;
 use program::answer::Verdict;
@@ -52,18 +51,8 @@ fn execute(file: &[u8], settings: Settings, state: State, memory: &mut [u16]) ->
     let mut w = core.w;
     let mut starts = loops.starts;
     let mut passes = loops.passes;
-    let table = reversals();
     let s = scalars_of(state);
-    let r = step(
-        file,
-        settings,
-        s,
-        &mut w,
-        &mut starts,
-        &mut passes,
-        memory,
-        &table,
-    );
+    let r = step(file, settings, s, &mut w, &mut starts, &mut passes, memory);
     let after = r.scalars;
     let state = state_of(w, starts, passes, after);
     SingleStep {

@@ -15,7 +15,6 @@ ghost use mathlib.Core.Bool.{true};
 ghost use mathlib.Core.Path.{_≡_};
 ghost use Prim.Native.Nat.{_<_};
 ghost use Rattle.accumulator.specs.Limit.{isAccumulator};
-ghost use Rattle.address.specs.Reversal.{reversalTable};
 ghost use Rattle.program.specs.File.{fileRefusal, operationCount, programOf};
 ghost use Rattle.effects.specs.Lent.{stateOf, workIn};
 ghost use Rattle.machine.specs.Control.{controlOf, begins};
@@ -72,18 +71,16 @@ pub fn step(
     starts: &mut [usize; 4],
     passes: &mut [u32; 4],
     memory: &mut [u16],
-    table: &[u16; 1024],
 ) -> Stepped
     requires { ⌜ fileRefusal (now file) ≡ 0 ⌝ }
     requires { ⌜ Ready (operationCount (now file)) (s .pc) (s .depth) (now starts) ⌝ }
     requires { ⌜ isAccumulator (s .a) ≡ true ⌝ }
     requires { ⌜ isAccumulator (s .b) ≡ true ⌝ }
-    requires { ⌜ now table ≡ reversalTable ⌝ }
     ensures { λ r. ⌜ stepIn (now (w .exit)) (now (starts .exit)) (now (passes .exit)) (now (memory .exit)) r ≡ stepped (programOf (now (file .entry))) settings (stateOf (now (w .entry)) (now (starts .entry)) (now (passes .entry)) s) (now (memory .entry)) ⌝ }
 {
     let operation = operation_at(file, s.pc);
     let mode = Mode::of(s.mode);
-    let e = effect_of(settings, mode, operation, s, w, memory, table);
+    let e = effect_of(settings, mode, operation, s, w, memory);
     let trap = e.trap;
     if trap != 0 {
         return Stepped {

@@ -1,5 +1,5 @@
 -- The header's fields where CASES.md has them: in a header whose byte i is i modulo 251 each field tells its place. Assumes nothing.
-use Prim.Native.Nat.{ℕ, _+_, _/_, _%_}
+use Prim.Native.Nat.{ℕ, zero, suc, _+_, _/_, _%_}
 use mathlib.Core.Path.{_≡_, refl}
 use mathlib.Core.Bool.{Bool, true, false, cond}
 use mathlib.Core.List.{List, [], _∷_, _++_, map}
@@ -8,11 +8,15 @@ use lib.IntN.{pos}
 use lib.ListN.{replicate}
 use Rattle.integers.specs.Bits.{signedOf}
 use Rattle.integers.specs.Range.{minus}
-use Rattle.address.specs.Reversal.{valuesFrom}
 use Rattle.combine.specs.declared.board.Board.{Board}
 use Rattle.stream.specs.Header.{fileSize, memoryWords, budgetIn, secondSize, outputRoom, whatIn, settingsIn, stateIn, registersIn, loopsIn}
 use Rattle.stream.specs.Memory.{memoryIn}
 use Rattle.stream.specs.Boards.{boardIn, boardsIn}
+
+-- f i, f (i + 1), .. : n numbers
+abbrev valuesFrom : (ℕ → ℕ) → ℕ → ℕ → List ℕ
+valuesFrom f i zero = []
+valuesFrom f i (suc n) = f i ∷ valuesFrom f (suc i) n
 
 -- bytes 0, 1, .., 250, 0, .., 68
 abbrev counted : List ℕ

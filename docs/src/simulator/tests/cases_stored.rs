@@ -24,7 +24,7 @@ fn the_stored_stream_is_what_the_bin_writes() {
     let stored = stored_case_files("stdin");
     assert!(stored == stream());
     println!("{} bytes", stored.len());
-    assert!(stored.len() <= 6_500_000);
+    assert!(stored.len() <= 6_750_000);
 }
 
 #[test]
@@ -77,6 +77,9 @@ fn the_parts_have_these_lengths() {
         ("random_forms", 200),
         ("boards", 563),
         ("random_boards", 200),
+        ("next_addresses", 130),
+        ("rounds", 33),
+        ("block_ends", 49),
     ];
     assert_eq!(lengths, said);
 }
@@ -102,6 +105,13 @@ fn the_short_parts_stand_first_as_they_are() {
 fn the_joined_parts_stand_next_as_they_are() {
     assert_eq!(check_up_to("stdin", 6_011_228), 3_790_703_533);
     assert_eq!(check_up_to("stdout", 704_359), 3_078_813_323);
+}
+
+/// So do the parts about combined boards, up to `random_boards`.
+#[test]
+fn the_parts_about_boards_stand_next_as_they_are() {
+    assert_eq!(check_up_to("stdin", 6_448_358), 1_122_299_604);
+    assert_eq!(check_up_to("stdout", 728_676), 1_114_626_151);
 }
 
 // ---- what the stream holds

@@ -1,6 +1,6 @@
 //! The documents beside the proved code: docs/GUARANTEES.md has every public function
-//! that asks something of its caller, docs/TRACE.md names what stands in the tree, and a
-//! name is defined in one file of definitions.
+//! that asks something of its caller, docs/TRACE.md names what stands in the tree, a
+//! name is defined in one file of definitions, and no table stands in code or definitions.
 
 use std::collections::{BTreeMap, BTreeSet};
 use std::fs;
@@ -231,6 +231,49 @@ fn guarantees_name_edits_that_stand() {
                 is_check(&format!("{krate} {edit}")),
                 "docs/GUARANTEES.md names the edit {edit} of {krate}, which is not there"
             );
+        }
+    }
+}
+
+/// The longest list of numbers in a text, comments left out: how many follow one another
+/// with nothing but a comma, `∷` and white space between them.
+fn longest_list(text: &str) -> usize {
+    let code = text.lines().filter(|line| {
+        let line = line.trim();
+        !line.starts_with("//") && !line.starts_with("--")
+    });
+    let code = code.collect::<Vec<_>>().join(" ").replace('∷', ",");
+    let (mut longest, mut here) = (0, 0);
+    for item in code.split(',') {
+        let item = item.trim();
+        let first = item.rsplit(['[', '(', ' ']).next().unwrap();
+        let is_number = |word: &str| word.starts_with(|c: char| c.is_ascii_digit());
+        here = match (is_number(item), is_number(first)) {
+            (true, _) => here + 1,
+            (false, true) => 1,
+            (false, false) => 0,
+        };
+        longest = longest.max(here);
+    }
+    longest
+}
+
+#[test]
+fn a_list_of_numbers_is_seen() {
+    assert_eq!(longest_list("[0, 512, 256,\n 768, 128]"), 5);
+    assert_eq!(longest_list("of (7 ∷ 0x10 ∷ 9 ∷ [])"), 3);
+    assert_eq!(longest_list("// 1, 2, 3\n f(w, 4, 5)"), 2);
+}
+
+#[test]
+fn no_table_stands_in_the_code() {
+    for krate in names("crates") {
+        for folder in ["src", "specs"] {
+            for file in names(&format!("crates/{krate}/{folder}")) {
+                let place = format!("crates/{krate}/{folder}/{file}");
+                let longest = longest_list(&text(&place));
+                assert!(longest < 16, "{place} has a list of {longest} numbers");
+            }
         }
     }
 }

@@ -148,7 +148,7 @@ fn files_writes_the_example_and_tally_its_line() {
 #[test]
 fn speed_writes_the_stored_cases() {
     let speed = env!("CARGO_BIN_EXE_speed");
-    for name in ["repeat", "loop"] {
+    for name in ["repeat", "loop", "reversed"] {
         let case = started(speed, &["case", name], &[]).stdout;
         assert_eq!(case, stored_speed(name));
     }

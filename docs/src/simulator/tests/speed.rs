@@ -4,7 +4,8 @@ mod common;
 use common::*;
 
 use simulator::cases::{bytes_of, next_case, Case};
-use simulator::generate::speed::{by_loops, by_repeat};
+use simulator::encode::encode;
+use simulator::generate::speed::{by_loops, by_repeat, by_reversal};
 use simulator::walk::walk;
 use simulator::Ending;
 
@@ -43,6 +44,7 @@ fn is_ten_million_macs(case: &Case) {
 fn the_stored_cases_are_what_the_bin_writes() {
     assert_eq!(stored_speed("repeat"), bytes_of(&by_repeat()));
     assert_eq!(stored_speed("loop"), bytes_of(&by_loops()));
+    assert_eq!(stored_speed("reversed"), bytes_of(&by_reversal()));
 }
 
 #[test]
@@ -53,4 +55,26 @@ fn the_repeated_macs_are_ten_million_and_done() {
 #[test]
 fn the_looped_macs_are_ten_million_and_done() {
     is_ten_million_macs(&stored("loop"));
+}
+
+/// 306 x 32,767 stores are 9,791 rounds of 1,024 and 718 more. 718 is 1011001110 in ten
+/// binary digits; turned round 0111001101, 461: the pointer is 1000 hex + 922. Each word
+/// holds its address.
+#[test]
+fn the_reversed_stores_are_ten_million_and_done() {
+    let case = stored("reversed");
+    let mut stores = 0;
+    let walked = walk(&case, |operation, _, _| {
+        stores += u32::from(encode(operation) == store(1, 1, 2));
+    });
+    assert_eq!(stores, 10_026_702);
+    assert_eq!(stores, 9_791 * 1_024 + 718);
+    // DO, 306 times REPEAT, the idle operation.
+    let (outcome, memory) = case.run(case.budget);
+    assert_eq!(outcome.steps, stores + 308);
+    assert_eq!(outcome, walked);
+    assert_eq!(outcome.ending, Ending::Done);
+    assert_eq!(outcome.state.w[1], 0x139A);
+    let addresses = (0..1_024).map(|index| 0x1000 + 2 * index);
+    assert!(memory.into_iter().eq(addresses));
 }

@@ -5,7 +5,7 @@ use borrow.Author.Needs.{needs}
 use lib.Pow.{pow-mono}
 use Rattle.address.specs.Reversal.{nextOf}
 use Rattle.address.proofs.Widths.{width-le}
-use Rattle.address.proofs.Reversals.{index-below, index-within, next-index-below, place-fits}
+use Rattle.address.proofs.Reversals.{index-within, next-index-below, place-fits}
 use Rattle.address.proofs.reversal.next.Statement.{statement}
 use Rattle.address.proofs.reversal.next.Tie as tie
 
@@ -13,10 +13,7 @@ index-requires : tie.Need-index-requires
 index-requires c κs = rw (c .width .ensures) (width-le (c .before .args .n))
 
 next-index-requires : tie.Need-next-index-requires
-next-index-requires c κs =
-    let start = c .before .before in
-    let b = c .before .width .result in
-    (start .pre, (rw (c .before .width .ensures) (width-le (start .args .n)), rw (c .index .ensures) (index-below b (start .args .a .0))))
+next-index-requires c κs = rw (c .before .width .ensures) (width-le (c .before .before .args .n))
 
 mul-to : tie.Need-mul-to
 mul-to c = omega (arith, c .before .index .ensures, index-within (2 ^ c .before .before .width .result) (c .before .before .before .args .a .0))

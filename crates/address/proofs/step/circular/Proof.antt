@@ -17,10 +17,10 @@ use Rattle.address.proofs.step.unreduced.Reads as unreduced-reads
 -- the point after the call of `unreduced`, and the function's entry
 abbrev claims : lts.Claims
 claims = (
-  size-reads.Asked,
-  size-reads.Learnt,
   unreduced-reads.Asked,
   unreduced-reads.Learnt,
+  size-reads.Asked,
+  size-reads.Learnt,
   low-word-reads.Asked,
   low-word-reads.Learnt,
   stepped-reads.Asked,
@@ -31,34 +31,38 @@ abbrev Unreduced : Type 0
 Unreduced = lts.After-unreduced claims reads.Pre reads.Post
 
 abbrev start : Unreduced → lts.Start claims reads.Pre reads.Post
-start c = c .before .before .before .before .before
+start c = c .before .before .before .before
 
 known :
     (c : Unreduced)
-    → Known (start c .args .buffer) (start c .args .old .0) (start c .args .step) (c .before .size .result) (c .unreduced .result)
+    → Known (start c .args .buffer) (start c .args .old .0) (start c .args .step) (c .unreduced .result)
 known c =
     let a = start c .args in
     let fits = start c .fits .step in
     record {
-      within = c .before .before .if1 .taken;
+      within = c .before .if1 .taken;
       start = search needs;
       last = search needs;
       small = sum-small (search needs) fits;
-      bytes-is = gave (c .before .size .ensures) (c .before .size .ok);
       to-is = gave (c .unreduced .ensures ∙ ap (λ (z : ℤ). pos (a .old .0) +ℤ z) (toZ-ofZ fits)) (c .unreduced .ok);
     }
 
 sub-low-word : tie.Need-sub-low-word
-sub-low-word c = less-bytes-fits (known (c .before))
+sub-low-word c = less-bytes-fits (known (c .before .before)) (c .size .result) (gave (c .size .ensures) (c .size .ok))
 
 add-low-word : tie.Need-add-low-word
-add-low-word c = more-bytes-fits (known (c .before .before))
+add-low-word c = more-bytes-fits (known (c .before .before .before)) (c .size2 .result) (gave (c .size2 .ensures) (c .size2 .ok))
 
 returns : tie.Need-returns
-returns c = c .low-word .ensures ∙ above (known (c .before .before)) (c .before .if2 .taken)
+returns c =
+    let size = c .before .size in
+    c .low-word .ensures ∙ above (known (c .before .before .before)) (size .result) (gave (size .ensures) (size .ok)) (c .before .before .if2 .taken)
 
 returns-2 : tie.Need-returns-2
-returns-2 c = c .low-word2 .ensures ∙ below (known (c .before .before .before)) (c .before .before .if2 .left) (c .before .if3 .taken)
+returns-2 c =
+    let size = c .before .size2 in
+    c .low-word2 .ensures
+    ∙ below (known (c .before .before .before .before)) (size .result) (gave (size .ensures) (size .ok)) (c .before .before .before .if2 .left) (c .before .before .if3 .taken)
 
 returns-3 : tie.Need-returns-3
 returns-3 c =
@@ -76,11 +80,12 @@ circular-spec =
     tie.close
     (tie.spec
     (λ c κs. tt)
-    (λ c κs. tt)
     (λ c. search needs)
+    (λ c κs. tt)
     sub-low-word
     (λ c κs. tt)
     (λ c. search needs)
+    (λ c κs. tt)
     add-low-word
     (λ c κs. tt)
     (λ c κs. tt)

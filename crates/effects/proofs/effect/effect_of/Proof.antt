@@ -1,7 +1,7 @@
 -- `effect::effect_of` meets its contract, kind by kind. Assumes nothing.
 use mathlib.Core.Path.{refl}
 use Prim.Native.Nat.{_-_}
-use Rattle.effects.specs.Effect.{blocked, stores}
+use Rattle.effects.specs.Effect.{stores}
 use Rattle.effects.specs.Operations.{workOf}
 use Rattle.operations.specs.Listed.{isListed}
 use Rattle.effects.proofs.Operands.{operand-shift}
@@ -13,7 +13,7 @@ load-accumulator-requires : tie.Need-load-accumulator-requires
 unfolding isListed
 load-accumulator-requires c κs =
     let entry = c .before .before .before .before .before in
-    (operand-shift _ (c .before .before .operation6 .given .0 .1 .1 .0) (rw (c .before .before .operation6 .given .1) at (entry .pre .0)), entry .pre .1 .1 .1)
+    operand-shift _ (c .before .before .operation6 .given .0 .1 .1 .0) (rw (c .before .before .operation6 .given .1) at (entry .pre .0))
 
 add-operand-requires : tie.Need-add-operand-requires
 unfolding isListed

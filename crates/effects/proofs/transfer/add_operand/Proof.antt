@@ -14,7 +14,7 @@ load-to-requires : tie.Need-load-to-requires
 load-to-requires c κs =
     let entry = c .before .before .before in
     let v : toZ w64 (ofZ w64 (c .before .value .result)) ≡ c .before .value .result = search needs in
-    (rw (v, c .before .value .ensures [] [] []) (by-target (entry .args .s) (entry .args .target) (entry .pre .1 .0) (entry .pre .1 .1 .0)), (entry .pre .0, entry .pre .1 .1 .1))
+    (rw (v, c .before .value .ensures [] [] []) (by-target (entry .args .s) (entry .args .target) (entry .pre .1 .0) (entry .pre .1 .1)), entry .pre .0)
 
 returns : tie.Need-returns
 returns c =

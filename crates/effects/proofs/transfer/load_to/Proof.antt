@@ -25,7 +25,7 @@ add-r : tie.Need-add-r
 add-r c =
     let entry = c .before .before .before .before .before .before .before .before .before in
     let x : c .before .before .before .word-at .result < 2 ^ 16 = search needs in
-    rw (toZ-ofZ (entry .fits .v), value c) (load-fits _ _ (entry .pre .0) (loaded-within _ _ x (entry .pre .1 .0)))
+    rw (toZ-ofZ (entry .fits .v), value c) (load-fits _ _ (entry .pre .0) (loaded-within _ _ x (entry .pre .1)))
 
 returns-2 : tie.Need-returns-2
 unfolding loadWork

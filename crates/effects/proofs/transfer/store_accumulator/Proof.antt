@@ -14,7 +14,7 @@ scaled-requires : tie.Need-scaled-requires
 scaled-requires c κs =
     let v : toZ w64 (ofZ w64 (c .value .result)) ≡ c .value .result = search needs in
     let entry = c .before in
-    (rw (v, c .value .ensures [] [] []) (by-target (entry .args .s) (entry .args .target) (entry .pre .1 .0) (entry .pre .1 .1 .0)), entry .pre .0)
+    (rw (v, c .value .ensures [] [] []) (by-target (entry .args .s) (entry .args .target) (entry .pre .1 .0) (entry .pre .1 .1)), entry .pre .0)
 
 returns : tie.Need-returns
 returns c =

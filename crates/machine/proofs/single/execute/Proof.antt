@@ -15,10 +15,8 @@ use Rattle.machine.proofs.single.execute.Tie as tie
 
 step-requires : tie.Need-step-requires
 step-requires c κs =
-    let entry = c .before .before .before .before .before .before .before .before .before .before .before .before .before .before in
-    let at-before = c .before .before .before .before .before .before .before .before .before .before .before .before .before in
-    let at-reversals = c .before .before .before .before .before .before in
-    let at-scalars-of = c .before .before .before .before .before in
+    let entry = c .before .before .before .before .before .before .before .before .before .before .before .before in
+    let at-scalars-of = c .before .before .before .before in
     let file = entry .args .file .now in
     let count : length (programOf file) ≡ operationCount file = program-length file (entry .pre .0) in
     let typed = typed-state (entry .args .state) _ (entry .good .1 .1 .0) in
@@ -29,15 +27,13 @@ step-requires c κs =
     let deep : at-scalars-of .scalars-of .result .depth ≡ entry .args .state .core .loops .depth = ap (λ (x : State). x .core .loops .depth) is in
     let a : at-scalars-of .scalars-of .result .a ≡ entry .args .state .core .a = ap (λ (x : State). x .core .a) is in
     let b : at-scalars-of .scalars-of .result .b ≡ entry .args .state .core .b = ap (λ (x : State). x .core .b) is in
-    (entry .pre .0, (rw (same, deep) (rw (count) at (stands-ready (programOf file) (entry .args .state .core) stands at)), (rw (a) (stands .a), (rw (b) (stands .b), at-reversals .reversals .ensures))))
+    (entry .pre .0, (rw (same, deep) (rw (count) at (stands-ready (programOf file) (entry .args .state .core) stands at)), (rw (a) (stands .a), rw (b) (stands .b))))
 
 returns : tie.Need-returns
 returns c =
-    let entry = c .before .before .before .before .before .before .before .before .before .before .before .before .before .before .before .before .before .before .before in
-    let at-before = c .before .before .before .before .before .before .before .before .before .before .before .before .before .before .before .before .before .before in
-    let at-scalars-of = c .before .before .before .before .before .before .before .before .before .before in
+    let at-scalars-of = c .before .before .before .before .before .before .before .before .before in
     let at-step = c .before .before .before .before in
     (rw (c .state-of .ensures) (at-step .step .ensures ∙ rw (at-scalars-of .scalars-of .ensures)), refl)
 
 pub execute-spec : {M : Type 1} → statement M
-execute-spec = tie.close (tie.spec (λ c κs. search needs) (λ c κs. search needs) step-requires (λ c κs. search needs) (λ c. search needs) returns)
+execute-spec = tie.close (tie.spec (λ c κs. search needs) step-requires (λ c κs. search needs) (λ c. search needs) returns)

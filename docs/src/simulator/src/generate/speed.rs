@@ -1,8 +1,9 @@
-//! Cases to time: ten million MACs and a little over, by REPEAT or by loops.
+//! Cases to time, ten million operations and a little over each: MACs by REPEAT or by
+//! loops, bit-reversed stores by REPEAT.
 
 use super::bench::Bench;
 use super::forms::Bytes;
-use super::ops::{multiply_and_read, IDLE};
+use super::ops::{multiply_and_read, store, IDLE};
 use super::runs::build::{words, Program};
 use crate::cases::Case;
 
@@ -22,17 +23,30 @@ pub fn by_loops() -> Case {
     }))
 }
 
-/// Both buffers in the whole of their parts, all else as after reset but for the
-/// pointers.
+/// 306 times REPEAT 32,766 and a store at the bit-reversed W1 with N 1,024 in 1,024
+/// words: 10,026,702 stores. Each one stores the address it goes to. As 1,024 does not
+/// divide their number, the pointer ends within a round.
+pub fn by_reversal() -> Case {
+    let program = Program::new().looped(305, |body| body.repeated(32_766, store(1, 1, 2)));
+    let bench = cleared(program, vec![0; 1_024], 512);
+    bench.reversed(1, 1_024).w(1, 0x1000).case
+}
+
+/// Both buffers in the whole of their parts.
 fn timed(program: Program) -> Case {
+    let bench = cleared(program, buffers(), LENGTH as u16);
+    let corrected = bench.x(8, 0x1000, 0x107F).y(10, 0x1080, 0x10FF);
+    corrected.w(8, 0x1000).w(10, 0x1080).case
+}
+
+/// The program and an idle operation with these words, the first of them X's, all else
+/// as after reset.
+fn cleared(program: Program, words: Vec<u16>, x_words: u16) -> Bench {
     let bench = Bench::of(&program.op(IDLE).operations)
-        .words(buffers(), LENGTH as u16)
-        .x(8, 0x1000, 0x107F)
-        .y(10, 0x1080, 0x10FF)
+        .words(words, x_words)
         .both(0, 0)
         .budget(u32::MAX);
-    let cleared = (0..14).fold(bench, |bench, register| bench.w(register, 0));
-    cleared.w(8, 0x1000).w(10, 0x1080).case
+    (0..14).fold(bench, |bench, register| bench.w(register, 0))
 }
 
 /// X's second half is its first one negated and Y's the same again, but for one

@@ -1,6 +1,7 @@
 //! The stored stream of runs, loads, writes, joins and combined boards for the program
 //! `cases`.
 
+pub mod block_ends;
 pub mod boards;
 pub mod budgets;
 pub mod build;
@@ -13,7 +14,9 @@ pub mod joins;
 pub mod kinds;
 pub mod long;
 pub mod nests;
+pub mod next_addresses;
 pub mod refused;
+pub mod rounds;
 pub mod sizes;
 pub mod starts;
 pub mod sums;
@@ -39,7 +42,7 @@ const SMALL_MEMORY: usize = 400;
 /// A part of the stored stream, and how its cases are made.
 type Part = (&'static str, fn() -> Vec<Bench>);
 
-/// The parts that are made on the bench, in their order.
+/// The first parts, made on the bench, in their order.
 const PARTS: [Part; 11] = [
     ("budgets", budgets::cases),
     ("kinds", kinds::cases),
@@ -52,6 +55,13 @@ const PARTS: [Part; 11] = [
     ("sizes", sizes::cases),
     ("carried", carried::cases),
     ("refused", refused::cases),
+];
+
+/// The last parts, about the bit-reversed register, made on the bench too.
+const REVERSED: [Part; 3] = [
+    ("next_addresses", next_addresses::cases),
+    ("rounds", rounds::cases),
+    ("block_ends", block_ends::cases),
 ];
 
 /// The parts of the stored stream with their names, in order.
@@ -70,6 +80,7 @@ pub fn parts() -> Vec<(&'static str, Vec<Form>)> {
     parts.push(("random_forms", random_forms()));
     parts.push(("boards", boards::cases()));
     parts.push(("random_boards", random_boards()));
+    parts.extend(REVERSED.into_iter().map(made));
     parts
 }
 
