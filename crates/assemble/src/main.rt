@@ -3,8 +3,8 @@
 use libc::STDERR_FILENO;
 use libc::STDIN_FILENO;
 use libc::STDOUT_FILENO;
+use loader::write::write;
 use program::answer::Answer;
-use program::write::write;
 ghost use Prim.Native.Nat.{_≤_};
 
 // The value of a hexadecimal digit; 16 for any other character.

@@ -3,7 +3,7 @@ use address::word::WordIndex;
 use libc::STDIN_FILENO;
 use libc::STDOUT_FILENO;
 use lines::line;
-use lines::line::Notice;
+use report::notice::Notice;
 use service::call::ServiceOutcome;
 use service::call::Window;
 use service::call::serve;

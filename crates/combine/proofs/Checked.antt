@@ -23,9 +23,9 @@ use Rattle.machine.specs.Step.{operationAt, stateAfter}
 use Rattle.machine.proofs.Order.{modeAfter, controlled-frame}
 use Rattle.machine.proofs.ControlKinds.{by-kind}
 use Rattle.machine.proofs.Works.{settled-mode}
-use Rattle.engine.specs.Run.{Result}
-use Rattle.engine.specs.Engine.{Engine, engineTurn, engineDone}
-use Rattle.engine.proofs.Holds.{holds-none}
+use Rattle.runs.specs.Run.{Result}
+use Rattle.runs.specs.Engine.{Engine, engineTurn, engineDone}
+use Rattle.runs.proofs.Holds.{holds-none}
 use Rattle.engine.proofs.Agree.{settle-stays}
 use Rattle.engine.proofs.Steps.{Leads, turn-completes, steps-keep, transition, each-listed}
 use Rattle.combine.specs.Dot.{byteOf, writesA, addsToA, BoardCall, ranOn, StepFits, CallFits, setsOther, isStray, holdsStray}

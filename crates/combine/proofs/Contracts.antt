@@ -8,8 +8,8 @@ use Rattle.accumulator.specs.Mode.{modeOf}
 use Rattle.accumulator.specs.declared.limit.Accumulator.{Accumulator}
 use Rattle.program.specs.File.{programOf}
 use Rattle.state.specs.declared.state.State.{State}
-use Rattle.engine.specs.Run.{Result}
-use Rattle.engine.specs.Engine.{Engine}
+use Rattle.runs.specs.Run.{Result}
+use Rattle.runs.specs.Engine.{Engine}
 use Rattle.engine.specs.Call.{Runs}
 use Rattle.engine.specs.declared.outcome.Outcome.{Outcome}
 use Rattle.combine.specs.Boards.{boardOf, boardAt}

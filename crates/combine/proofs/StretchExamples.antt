@@ -30,15 +30,15 @@ use Rattle.program.specs.Write.{fileOf}
 use Rattle.state.proofs.Made.{_but_, reg, inA, inB, at, due, by, flags, one}
 use Rattle.machine.specs.Control.{controlOf}
 use Rattle.machine.proofs.CallExamples.{refused}
-use Rattle.engine.specs.Run.{Result}
-use Rattle.engine.specs.Run.Stop.{ended}
-use Rattle.engine.specs.Engine.{Engine}
-use Rattle.engine.specs.declared.ending.Ending.the-variants.{Trap}
-use Rattle.engine.specs.Holds.{holds}
+use Rattle.endings.specs.declared.ending.Ending.the-variants.{Trap}
+use Rattle.runs.specs.Run.{Result}
+use Rattle.runs.specs.Run.Stop.{ended}
+use Rattle.runs.specs.Engine.{Engine}
+use Rattle.runs.specs.Holds.{holds}
+use Rattle.runs.specs.Steps.{Transition, firstSteps}
+use Rattle.runs.proofs.Opened.{engine}
+use Rattle.runs.proofs.RunExamples.{trapping, plain, memory, start, bare}
 use Rattle.engine.specs.Call.{runOf}
-use Rattle.engine.specs.Steps.{Transition, firstSteps}
-use Rattle.engine.proofs.Opened.{engine}
-use Rattle.engine.proofs.RunExamples.{trapping, plain, memory, start, bare}
 use Rattle.engine.proofs.Steps.{transition, each-listed}
 use Rattle.combine.specs.Dot.{Pair, dotOf, writesA, addsToA, pairOf, pairsIn, BoardCall, ranOn, stepsOn, pairsOn, StepFits, CallFits, isStray, holdsStray}
 use Rattle.combine.proofs.Stretches.{runOn}

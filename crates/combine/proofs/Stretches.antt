@@ -24,10 +24,10 @@ use Rattle.machine.specs.Write.{settleOf}
 use Rattle.machine.specs.Control.{controlOf, clears, stateControlled}
 use Rattle.machine.specs.Step.{operationAt, stateAfter}
 use Rattle.machine.proofs.Order.{controlled-frame}
-use Rattle.engine.specs.Run.{Result}
-use Rattle.engine.specs.Engine.{Engine, engineTurn, engineDone}
+use Rattle.runs.specs.Run.{Result}
+use Rattle.runs.specs.Engine.{Engine, engineTurn, engineDone}
+use Rattle.runs.specs.Steps.{Transition, firstSteps}
 use Rattle.engine.specs.Call.{runOf}
-use Rattle.engine.specs.Steps.{Transition, firstSteps}
 use Rattle.engine.proofs.Steps.{Leads, StepsOn, turn-completes, Stepwise, end-keeps, call-stepwise, call-listed, transition, step-listed}
 use Rattle.combine.specs.Dot.{Pair, pairProduct, dotOf, writesA, addsToA, pairOf, executed, pairsIn, BoardCall, ranOn, pairsOn, StepFits, CallFits}
 use Rattle.combine.proofs.Works.{Meets, work-meets, adds-onward}

@@ -17,11 +17,12 @@ use Rattle.state.specs.declared.settings.Settings.{Settings}
 use Rattle.state.specs.declared.state.State.{State}
 use Rattle.machine.specs.Control.{controlOf, clears}
 use Rattle.machine.specs.Step.{operationAt}
-use Rattle.engine.specs.Run.{Result}
-use Rattle.engine.specs.Engine.{Engine}
-use Rattle.engine.specs.Holds.{holds}
+use Rattle.runs.specs.Run.{Result}
+use Rattle.runs.specs.Engine.{Engine}
+use Rattle.runs.specs.Holds.{holds}
+use Rattle.runs.specs.Steps.{Transition}
 use Rattle.engine.specs.Call.{runOf}
-use Rattle.engine.specs.Steps.{Transition, callSteps}
+use Rattle.engine.specs.Steps.{callSteps}
 
 -- ---- the dot product
 

@@ -17,7 +17,7 @@ use accumulator::mode::Mode;
 use accumulator::product::Factor;
 use accumulator::product::product;
 use accumulator::product::square;
-use operations::listed::reads;
+use codec::listed::reads;
 use operations::operation::Action;
 use operations::operation::MacClass;
 use operations::operation::Prefetch;

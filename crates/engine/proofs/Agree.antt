@@ -25,12 +25,12 @@ use Rattle.effects.specs.declared.effect.Exact.the-variants.{Keep, Replace}
 use Rattle.machine.specs.Write.{trapAfter, settleOf}
 use Rattle.machine.specs.Control.{controlOf, controlled, clears, stateControlled}
 use Rattle.machine.specs.Step.{Step, operationAt, stateAfter, completed, stepped}
-use Rattle.engine.specs.Run.{Stop, Turn, Result, complete}
-use Rattle.engine.specs.Engine.{Engine, turnOf, engineTurn, engineDone, engineFrom}
-use Rattle.engine.specs.Ledger.{Entry, Ledger, exactTrap, keepExact, exactTurn, ledgerDone, exactFrom}
-use Rattle.engine.specs.Ledger.Beyond.{stops}
-use Rattle.engine.specs.Exact.{holdsClear, FlagsClear}
-use Rattle.engine.proofs.Holds.{holds-none}
+use Rattle.runs.specs.Run.{Stop, Turn, Result, complete}
+use Rattle.runs.specs.Engine.{Engine, turnOf, engineTurn, engineDone, engineFrom}
+use Rattle.runs.specs.Ledger.{Entry, Ledger, exactTrap, keepExact, exactTurn, ledgerDone, exactFrom}
+use Rattle.runs.specs.Ledger.Beyond.{stops}
+use Rattle.runs.specs.Exact.{holdsClear, FlagsClear}
+use Rattle.runs.proofs.Holds.{holds-none}
 use Rattle.engine.proofs.Runs.{Keeps, run-keeps, keeps-so, Into, TurnsAlike, AlikeWhere, AlikeUnless, run-alike}
 
 -- ---- what agreement is

@@ -17,10 +17,10 @@ use Rattle.state.specs.declared.settings.Settings.{Settings}
 use Rattle.state.specs.declared.state.State.{State}
 use Rattle.effects.specs.Operations.{workOf}
 use Rattle.machine.specs.Step.{Step, operationAt, uncounted, completed, stepped}
-use Rattle.engine.specs.Run.{Result, run}
-use Rattle.engine.specs.Run.Stop.{ended}
-use Rattle.engine.specs.Engine.{Engine, engineTurn, engineDone, engineFrom, engineRun}
-use Rattle.engine.specs.declared.ending.Ending.the-variants.{Done, Spent, Trap}
+use Rattle.endings.specs.declared.ending.Ending.the-variants.{Done, Spent, Trap}
+use Rattle.runs.specs.Run.{Result, run}
+use Rattle.runs.specs.Run.Stop.{ended}
+use Rattle.runs.specs.Engine.{Engine, engineTurn, engineDone, engineFrom, engineRun}
 use Rattle.engine.proofs.Runs.{run-done}
 use Rattle.engine.proofs.Fits.{Fit, stepped-fits}
 

@@ -16,14 +16,14 @@ use Rattle.machine.specs.Single.{callRefusal}
 use Rattle.machine.proofs.Order.{withSums}
 use Rattle.machine.proofs.Calls.{call-file, call-settings, call-state, call-most, if-refused}
 use Rattle.machine.proofs.Stands.{accepted-stands, stands-accepted}
-use Rattle.engine.specs.Ending.{isRunEnding, numberOf, decimalOf, filledTo, nameOf}
-use Rattle.engine.specs.Run.{Result}
-use Rattle.engine.specs.Run.Stop.{ended}
-use Rattle.engine.specs.Engine.{Engine, engineDone, engineTurn, engineRun}
-use Rattle.engine.specs.Ledger.{onwardRun}
-use Rattle.engine.specs.Wraps.{holdsBarred, isSaturating}
+use Rattle.endings.specs.Ending.{isRunEnding, numberOf, decimalOf, filledTo, nameOf}
+use Rattle.endings.specs.declared.ending.Ending.the-variants.{Done, Refused}
+use Rattle.runs.specs.Run.{Result}
+use Rattle.runs.specs.Run.Stop.{ended}
+use Rattle.runs.specs.Engine.{Engine, engineDone, engineTurn, engineRun}
+use Rattle.runs.specs.Ledger.{onwardRun}
+use Rattle.runs.specs.Wraps.{holdsBarred, isSaturating}
 use Rattle.engine.specs.Call.{resultOf, refused, runOf, Runs, stopName, stopNumber}
-use Rattle.engine.specs.declared.ending.Ending.the-variants.{Done, Refused}
 use Rattle.engine.specs.declared.outcome.Outcome.{Outcome}
 use Rattle.engine.proofs.Runs.{run-within}
 use Rattle.engine.proofs.Sums.{exact-sums}

@@ -15,11 +15,11 @@ use Rattle.state.specs.declared.state.State.{State}
 use Rattle.machine.specs.Step.{operationAt, stepped}
 use Rattle.machine.proofs.Places.{listed-at}
 use Rattle.machine.proofs.Traps.{stepped-trapped}
-use Rattle.engine.specs.Ending.{isRunEnding}
-use Rattle.engine.specs.Run.{Stop, Turn}
-use Rattle.engine.specs.Run.Stop.{ended, left}
-use Rattle.engine.specs.Run.Turn.{over, last, next}
-use Rattle.engine.specs.Engine.{Engine, engineTurn, engineDone, engineRun}
+use Rattle.endings.specs.Ending.{isRunEnding}
+use Rattle.runs.specs.Run.{Stop, Turn}
+use Rattle.runs.specs.Run.Stop.{ended, left}
+use Rattle.runs.specs.Run.Turn.{over, last, next}
+use Rattle.runs.specs.Engine.{Engine, engineTurn, engineDone, engineRun}
 use Rattle.engine.proofs.Runs.{by-run}
 
 -- the number of a trap or a refusal

@@ -24,7 +24,7 @@ use Rattle.machine.specs.Step.{Step, operationAt, uncounted, completed, stepped
 use Rattle.machine.proofs.Words.{put-memory-long, put-memory}
 use Rattle.machine.proofs.Places.{work-fitted}
 use Rattle.machine.proofs.Stands.{Stands, stepped-stands}
-use Rattle.engine.specs.Engine.{Engine, engineTurn, engineDone, engineRun}
+use Rattle.runs.specs.Engine.{Engine, engineTurn, engineDone, engineRun}
 use Rattle.engine.proofs.Runs.{Keeps, run-keeps}
 
 -- an engine whose state stands, with a memory of so many words

@@ -1,13 +1,4 @@
-pub mod Opened
-pub mod Names
-pub mod NameExamples
-pub mod RunExamples
-pub mod LedgerExamples
-pub mod SumsExamples
-pub mod OverflowExamples
-pub mod StepExamples
-pub mod Table
-pub mod Holds
+pub mod CallExamples
 pub mod Runs
 pub mod Agree
 pub mod Split

@@ -18,13 +18,13 @@ use Rattle.effects.specs.declared.effect.Exact.{Exact}
 use Rattle.effects.specs.declared.effect.Exact.the-variants.{Keep, Replace}
 use Rattle.machine.specs.Control.{controlOf, controlled}
 use Rattle.machine.specs.Step.{operationAt}
-use Rattle.engine.specs.Run.{Stop, Turn, Result, complete}
-use Rattle.engine.specs.Run.Stop.{ended, left}
-use Rattle.engine.specs.Run.Turn.{last, next}
-use Rattle.engine.specs.Ledger.{Entry, Ledger, exactTrap, keepExact, exactTurn, ledgerDone, exactFrom, exactRun, ledgerRun, onwardRun}
-use Rattle.engine.specs.Ledger.Beyond.{stops, goesOn}
-use Rattle.engine.specs.Exact.{NeverLeft}
-use Rattle.engine.specs.declared.ending.Ending.the-variants.{Trap}
+use Rattle.endings.specs.declared.ending.Ending.the-variants.{Trap}
+use Rattle.runs.specs.Run.{Stop, Turn, Result, complete}
+use Rattle.runs.specs.Run.Stop.{ended, left}
+use Rattle.runs.specs.Run.Turn.{last, next}
+use Rattle.runs.specs.Ledger.{Entry, Ledger, exactTrap, keepExact, exactTurn, ledgerDone, exactFrom, exactRun, ledgerRun, onwardRun}
+use Rattle.runs.specs.Ledger.Beyond.{stops, goesOn}
+use Rattle.runs.specs.Exact.{NeverLeft}
 use Rattle.engine.proofs.Runs.{keeps-true, Into, TurnsAlike, AlikeWhere, AlikeUnless, run-alike}
 
 -- r is kept, wherever it lies, with its O flag; the step is counted, and its store stays on the list

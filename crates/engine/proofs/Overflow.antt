@@ -12,10 +12,10 @@ use Rattle.accumulator.proofs.Sizes.{accumulator-within}
 use Rattle.operations.specs.declared.operation.Operation.{Operation}
 use Rattle.state.specs.declared.settings.Settings.{Settings}
 use Rattle.state.specs.declared.state.State.{State}
-use Rattle.engine.specs.Engine.{Engine, engineTurn, engineDone, engineFrom, engineRun}
-use Rattle.engine.specs.Ledger.{Ledger, ledgerDone, exactTurn, exactFrom, exactRun, onwardRun}
-use Rattle.engine.specs.Ledger.Beyond.{goesOn}
-use Rattle.engine.specs.Wraps.{holdsBarred, isSaturating, Matches, Wraps}
+use Rattle.runs.specs.Engine.{Engine, engineTurn, engineDone, engineFrom, engineRun}
+use Rattle.runs.specs.Ledger.{Ledger, ledgerDone, exactTurn, exactFrom, exactRun, onwardRun}
+use Rattle.runs.specs.Ledger.Beyond.{goesOn}
+use Rattle.runs.specs.Wraps.{holdsBarred, isSaturating, Matches, Wraps}
 use Rattle.engine.proofs.Runs.{RunsAlike, alike, run-alike}
 use Rattle.engine.proofs.SameSteps.{Going, Nowhere, step-going}
 

@@ -6,11 +6,11 @@ use mathlib.Core.Path.{_≡_, refl, sym, ap, _∙_, subst}
 use native.Mathlib.Nat.{zero-add, suc-add, add-suc, add-zero}
 use native.Mathlib.Omega.{arith}
 use Rattle.integers.proofs.Whole.{never, by-test}
-use Rattle.engine.specs.Run.{Stop, isLeft, isDone, Turn, Result, after, run}
-use Rattle.engine.specs.Run.Stop.{ended, left}
-use Rattle.engine.specs.Run.Turn.{over, last, next}
-use Rattle.engine.specs.declared.ending.Ending.{Ending}
-use Rattle.engine.specs.declared.ending.Ending.the-variants.{Done, Spent, Trap, Refused}
+use Rattle.endings.specs.declared.ending.Ending.{Ending}
+use Rattle.endings.specs.declared.ending.Ending.the-variants.{Done, Spent, Trap, Refused}
+use Rattle.runs.specs.Run.{Stop, isLeft, isDone, Turn, Result, after, run}
+use Rattle.runs.specs.Run.Stop.{ended, left}
+use Rattle.runs.specs.Run.Turn.{over, last, next}
 
 -- ---- a run by its first turn
 

@@ -28,15 +28,15 @@ use Rattle.machine.specs.Control.{controlOf, controlled, stateControlled}
 use Rattle.machine.specs.Step.{Step, operationAt, stateAfter, uncounted, completed, stepped}
 use Rattle.machine.proofs.Works.{no-overflow-trap, no-trap}
 use Rattle.machine.proofs.Order.{withSums, controlled-sums, modeAfter, controlled-frame}
-use Rattle.engine.specs.Run.{Turn, complete}
-use Rattle.engine.specs.Run.Stop.{ended}
-use Rattle.engine.specs.Run.Turn.{over}
-use Rattle.engine.specs.Engine.{Engine, turnOf, engineTurn}
-use Rattle.engine.specs.Ledger.{Entry, Ledger, exactTrap, keepExact, exactTurn}
-use Rattle.engine.specs.Ledger.Beyond.{goesOn}
-use Rattle.engine.specs.declared.ending.Ending.the-variants.{Trap}
-use Rattle.engine.specs.Wraps.{isBarred, holdsBarred, isSaturating}
-use Rattle.engine.proofs.Holds.{holds-none}
+use Rattle.endings.specs.declared.ending.Ending.the-variants.{Trap}
+use Rattle.runs.specs.Run.{Turn, complete}
+use Rattle.runs.specs.Run.Stop.{ended}
+use Rattle.runs.specs.Run.Turn.{over}
+use Rattle.runs.specs.Engine.{Engine, turnOf, engineTurn}
+use Rattle.runs.specs.Ledger.{Entry, Ledger, exactTrap, keepExact, exactTurn}
+use Rattle.runs.specs.Ledger.Beyond.{goesOn}
+use Rattle.runs.specs.Wraps.{isBarred, holdsBarred, isSaturating}
+use Rattle.runs.proofs.Holds.{holds-none}
 use Rattle.engine.proofs.Runs.{TurnsAlike}
 use Rattle.engine.proofs.SameWorks.{SameWork, unbarred}
 

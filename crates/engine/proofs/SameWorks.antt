@@ -24,7 +24,7 @@ use Rattle.machine.specs.Write.{valueWord, putRegister, putMemory}
 use Rattle.machine.specs.Control.{controlOf}
 use Rattle.machine.proofs.Order.{withSums, modeAfter}
 use Rattle.machine.proofs.ControlKinds.{by-kind}
-use Rattle.engine.specs.Wraps.{isBarredKind, isBarred}
+use Rattle.runs.specs.Wraps.{isBarredKind, isBarred}
 
 -- equal modulo 2^40
 modulo : Congruence (SameModulo 40)

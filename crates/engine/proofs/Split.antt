@@ -16,12 +16,12 @@ use Rattle.effects.specs.Operations.{workOf}
 use Rattle.effects.specs.declared.effect.Exact.{Exact}
 use Rattle.effects.specs.declared.effect.Exact.the-variants.{Keep, Replace}
 use Rattle.machine.specs.Step.{operationAt, stepped}
-use Rattle.engine.specs.Run.{Stop, Result, complete}
-use Rattle.engine.specs.Run.Stop.{ended}
-use Rattle.engine.specs.Run.Turn.{last, next}
-use Rattle.engine.specs.Engine.{Engine, engineTurn, engineDone, engineFrom, engineRun}
-use Rattle.engine.specs.Ledger.{Entry, Ledger, Beyond, stopsAt, exactTrap, keepExact, exactTurn, ledgerDone, exactFrom, exactRun}
-use Rattle.engine.specs.declared.ending.Ending.the-variants.{Trap}
+use Rattle.endings.specs.declared.ending.Ending.the-variants.{Trap}
+use Rattle.runs.specs.Run.{Stop, Result, complete}
+use Rattle.runs.specs.Run.Stop.{ended}
+use Rattle.runs.specs.Run.Turn.{last, next}
+use Rattle.runs.specs.Engine.{Engine, engineTurn, engineDone, engineFrom, engineRun}
+use Rattle.runs.specs.Ledger.{Entry, Ledger, Beyond, stopsAt, exactTrap, keepExact, exactTurn, ledgerDone, exactFrom, exactRun}
 use Rattle.engine.proofs.Runs.{Avoids, isSpent, goingOn, run-split, later, run-later}
 
 -- ---- the engine and the ledger

@@ -26,13 +26,13 @@ use Rattle.machine.specs.Control.{controlOf, stateControlled}
 use Rattle.machine.specs.Step.{Step, operationAt, stateAfter, completed, stepped}
 use Rattle.machine.specs.Single.{callRefusal}
 use Rattle.machine.proofs.Calls.{call-file}
-use Rattle.engine.specs.Run.{Turn, Result, after, run}
-use Rattle.engine.specs.Run.Stop.{ended}
-use Rattle.engine.specs.Run.Turn.{over, last, next}
-use Rattle.engine.specs.Engine.{Engine, turnOf, engineTurn, engineDone, engineRun}
+use Rattle.endings.specs.declared.ending.Ending.{Ending}
+use Rattle.runs.specs.Run.{Turn, Result, after, run}
+use Rattle.runs.specs.Run.Stop.{ended}
+use Rattle.runs.specs.Run.Turn.{over, last, next}
+use Rattle.runs.specs.Engine.{Engine, turnOf, engineTurn, engineDone, engineRun}
+use Rattle.runs.specs.Steps.{Transition, firstSteps}
 use Rattle.engine.specs.Call.{refused, runOf}
-use Rattle.engine.specs.declared.ending.Ending.{Ending}
-use Rattle.engine.specs.Steps.{Transition, firstSteps}
 use Rattle.engine.proofs.Runs.{run-done, run-spent, run-turn, by-run, run-counts}
 use Rattle.engine.proofs.Fits.{file-listed}
 

@@ -36,12 +36,12 @@ use Rattle.machine.specs.Write.{valueWord, putRegister, putMemory}
 use Rattle.machine.specs.Control.{controlOf, controlled}
 use Rattle.machine.specs.Step.{operationAt}
 use Rattle.machine.specs.declared.control.Control.{Control}
-use Rattle.engine.specs.Run.{Turn, Result, run}
-use Rattle.engine.specs.Run.Turn.{over, last, next}
-use Rattle.engine.specs.Engine.{Engine, engineTurn, engineFrom, engineRun}
-use Rattle.engine.specs.Ledger.{Entry, isStored, withStore, Ledger, exactTrap, keepExact, exactTurn, ledgerDone, exactRun, ledgerRun}
-use Rattle.engine.specs.Ledger.Beyond.{stops}
-use Rattle.engine.specs.Exact.{holdsClear, wordIn, storedAt}
+use Rattle.runs.specs.Run.{Turn, Result, run}
+use Rattle.runs.specs.Run.Turn.{over, last, next}
+use Rattle.runs.specs.Engine.{Engine, engineTurn, engineFrom, engineRun}
+use Rattle.runs.specs.Ledger.{Entry, isStored, withStore, Ledger, exactTrap, keepExact, exactTurn, ledgerDone, exactRun, ledgerRun}
+use Rattle.runs.specs.Ledger.Beyond.{stops}
+use Rattle.runs.specs.Exact.{holdsClear, wordIn, storedAt}
 use Rattle.engine.proofs.Runs.{Keeps, run-keeps}
 use Rattle.engine.proofs.Agree.{cleared, clear, Follows, turn-follows}
 use Rattle.machine.proofs.Order.{controlled-frame}

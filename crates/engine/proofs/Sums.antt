@@ -11,11 +11,11 @@ use Rattle.state.specs.declared.settings.Settings.{Settings}
 use Rattle.state.specs.declared.state.Core.{Core}
 use Rattle.state.specs.declared.state.State.{State}
 use Rattle.machine.specs.Step.{operationAt}
-use Rattle.engine.specs.Run.{Stop, isLeft, Result}
-use Rattle.engine.specs.Run.Stop.{ended, left}
-use Rattle.engine.specs.Engine.{Engine, engineRun}
-use Rattle.engine.specs.Ledger.{Ledger, exactRun, ledgerRun}
-use Rattle.engine.specs.Exact.{holdsClear, FlagsClear, Alike, NeverLeft, ExactSums}
+use Rattle.runs.specs.Run.{Stop, isLeft, Result}
+use Rattle.runs.specs.Run.Stop.{ended, left}
+use Rattle.runs.specs.Engine.{Engine, engineRun}
+use Rattle.runs.specs.Ledger.{Ledger, exactRun, ledgerRun}
+use Rattle.runs.specs.Exact.{holdsClear, FlagsClear, Alike, NeverLeft, ExactSums}
 use Rattle.engine.proofs.Agree.{cleared, flagged-clear, Ends, run-agrees}
 use Rattle.engine.proofs.Stored.{run-rights}
 

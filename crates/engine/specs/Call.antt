@@ -9,14 +9,14 @@ use Rattle.program.specs.File.{programOf}
 use Rattle.state.specs.declared.settings.Settings.{Settings}
 use Rattle.state.specs.declared.state.State.{State}
 use Rattle.machine.specs.Single.{callRefusal}
-use Rattle.engine.specs.Ending.{isRunEnding, nameOf, numberOf}
-use Rattle.engine.specs.Run.{Stop, Result}
-use Rattle.engine.specs.Run.Stop.{ended, left}
-use Rattle.engine.specs.Engine.{Engine, engineRun}
-use Rattle.engine.specs.Ledger.{ledgerRun, onwardRun}
-use Rattle.engine.specs.Exact.{holdsClear, FlagsClear, ExactSums}
-use Rattle.engine.specs.Wraps.{holdsBarred, isSaturating, Wraps}
-use Rattle.engine.specs.declared.ending.Ending.the-variants.{Refused}
+use Rattle.endings.specs.Ending.{isRunEnding, nameOf, numberOf}
+use Rattle.endings.specs.declared.ending.Ending.the-variants.{Refused}
+use Rattle.runs.specs.Run.{Stop, Result}
+use Rattle.runs.specs.Run.Stop.{ended, left}
+use Rattle.runs.specs.Engine.{Engine, engineRun}
+use Rattle.runs.specs.Ledger.{ledgerRun, onwardRun}
+use Rattle.runs.specs.Exact.{holdsClear, FlagsClear, ExactSums}
+use Rattle.runs.specs.Wraps.{holdsBarred, isSaturating, Wraps}
 use Rattle.engine.specs.declared.outcome.Outcome.{Outcome}
 
 -- an outcome and the memory that is left, as a run's result

@@ -1,12 +1,3 @@
--- The engine in the order of document 01: "Stepping and ending" (endings, the run, the engine's run), "Ledger", what a program holds, demand 3
--- (exact sums), wish 12 (exact even after overflow), the call, the steps of a run (for wish 11), and the table A to L.
-pub mod Ending
-pub mod Run
-pub mod Engine
-pub mod Ledger
-pub mod Holds
-pub mod Exact
-pub mod Wraps
+-- The call for a run: refused, or run; what it promises of a run's steps, ending and sums; and its steps (for wish 11).
 pub mod Call
 pub mod Steps
-pub mod Table

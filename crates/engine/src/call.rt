@@ -1,7 +1,7 @@
 // The call for a run, which asks nothing.
-use crate::ending::Ending;
 use crate::outcome::Outcome;
 use crate::run::run_accepted;
+use endings::ending::Ending;
 use machine::single::refusal;
 use state::settings::Settings;
 use state::state::State;

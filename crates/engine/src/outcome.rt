@@ -1,5 +1,5 @@
 // What a run comes to.
-use crate::ending::Ending;
+use endings::ending::Ending;
 use state::state::State;
 
 // How a run ended, the state at its end, and the steps made.

@@ -1,18 +1,18 @@
 // The run of an accepted program.
-use crate::ending::Ending;
 use crate::outcome::Outcome;
 use effects::scalars::Scalars;
 use effects::scalars::scalars_of;
 use effects::scalars::state_of;
+use endings::ending::Ending;
+use loader::file::operation_count;
 use machine::step::step;
-use program::file::operation_count;
 use state::settings::Settings;
 use state::state::State;
 ghost use mathlib.Core.Path.{_≡_};
 ghost use Rattle.program.specs.File.{fileRefusal, programOf};
 ghost use Rattle.state.specs.Accept.{stateRefusal};
 ghost use Rattle.effects.specs.Lent.{stateOf};
-ghost use Rattle.engine.specs.Engine.{engineRun};
+ghost use Rattle.runs.specs.Engine.{engineRun};
 ghost use Rattle.engine.specs.Call.{resultOf};
 
 // The outcome of a run that ends here.

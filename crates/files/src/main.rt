@@ -2,9 +2,9 @@
 // and a check number over the whole lent slice after the call.
 use libc::STDIN_FILENO;
 use libc::STDOUT_FILENO;
+use loader::file::load;
+use loader::write::write;
 use program::answer::Answer;
-use program::file::load;
-use program::write::write;
 
 // The next check number: 31 c + b modulo 65,536.
 fn next_check(c: u16, b: u8) -> u16 {

@@ -22,14 +22,14 @@ use Rattle.machine.specs.Control.{controlOf, clears}
 use Rattle.machine.specs.Single.{callRefusal}
 use Rattle.machine.proofs.Stands.{accepted-stands, stands-accepted}
 use Rattle.machine.proofs.Calls.{call-settings, call-state}
-use Rattle.engine.specs.Run.{isDone, Result}
-use Rattle.engine.specs.Engine.{Engine, engineRun}
-use Rattle.engine.specs.Exact.{holdsClear}
-use Rattle.engine.specs.Wraps.{isBarred, holdsBarred}
-use Rattle.engine.specs.Holds.{holds}
+use Rattle.runs.specs.Run.{isDone, Result}
+use Rattle.runs.specs.Engine.{Engine, engineRun}
+use Rattle.runs.specs.Exact.{holdsClear}
+use Rattle.runs.specs.Wraps.{isBarred, holdsBarred}
+use Rattle.runs.specs.Holds.{holds}
+use Rattle.runs.proofs.Holds.{holds-append, holds-map}
 use Rattle.engine.specs.Call.{refused, runOf}
 use Rattle.engine.proofs.Fits.{Fit, run-fits}
-use Rattle.engine.proofs.Holds.{holds-append, holds-map}
 use Rattle.engine.proofs.Runs.{thenOn}
 use Rattle.join.specs.Join.{movedOperation, joined, joinedFile, Joinable}
 use Rattle.join.specs.Both.{movedResult, runsBoth}

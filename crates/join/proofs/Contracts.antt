@@ -16,11 +16,11 @@ use Rattle.state.specs.declared.settings.Settings.{Settings}
 use Rattle.state.specs.declared.state.State.{State}
 use Rattle.machine.specs.Single.{callRefusal}
 use Rattle.machine.proofs.Calls.{call-settings, call-state}
-use Rattle.engine.specs.Run.{isDone, Result}
-use Rattle.engine.specs.Run.Stop.{ended}
-use Rattle.engine.specs.Engine.{Engine, engineRun}
-use Rattle.engine.specs.Ledger.{ledgerRun}
-use Rattle.engine.specs.Exact.{holdsClear, FlagsClear, ExactSums}
+use Rattle.runs.specs.Run.{isDone, Result}
+use Rattle.runs.specs.Run.Stop.{ended}
+use Rattle.runs.specs.Engine.{Engine, engineRun}
+use Rattle.runs.specs.Ledger.{ledgerRun}
+use Rattle.runs.specs.Exact.{holdsClear, FlagsClear, ExactSums}
 use Rattle.engine.specs.Call.{resultOf, runOf, Runs}
 use Rattle.engine.specs.declared.outcome.Outcome.{Outcome}
 use Rattle.join.specs.Join.{joined, joinedFile, joinRefusal}

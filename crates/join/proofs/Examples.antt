@@ -22,12 +22,12 @@ use Rattle.state.specs.declared.settings.Settings.{Settings}
 use Rattle.state.specs.declared.state.State.{State}
 use Rattle.state.proofs.Made.{slots, _but_, reg, inA, inB, at, due, by, flags, one}
 use Rattle.machine.proofs.CallExamples.{refused}
-use Rattle.engine.specs.Run.{Result}
-use Rattle.engine.specs.Engine.{Engine}
+use Rattle.endings.specs.declared.ending.Ending.the-variants.{Done, Spent, Trap, Refused}
+use Rattle.runs.specs.Run.{Result}
+use Rattle.runs.specs.Engine.{Engine}
+use Rattle.runs.proofs.Opened.{engine}
+use Rattle.runs.proofs.RunExamples.{trapping, plain, memory, start, ends}
 use Rattle.engine.specs.Call.{runOf}
-use Rattle.engine.specs.declared.ending.Ending.the-variants.{Done, Spent, Trap, Refused}
-use Rattle.engine.proofs.Opened.{engine}
-use Rattle.engine.proofs.RunExamples.{trapping, plain, memory, start, ends}
 use Rattle.join.specs.Join.{movedOperation, joined, encoded, joinedBytes, joinedFile, togetherRefusal, joinRefusal}
 use Rattle.join.specs.Both.{movedLoops, runsBoth}
 use Rattle.join.specs.Call.{writtenIn}

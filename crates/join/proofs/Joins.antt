@@ -8,7 +8,7 @@ use Rattle.program.specs.Answer.{answerBytes, Filled}
 use Rattle.program.specs.Bytes.{over}
 use Rattle.program.specs.File.{fileRefusal, operationCount, programOf}
 use Rattle.program.specs.declared.answer.Answer.{Answer}
-use Rattle.engine.specs.Exact.{holdsClear}
+use Rattle.runs.specs.Exact.{holdsClear}
 use Rattle.engine.specs.Call.{runOf}
 use Rattle.join.specs.Join.{joined, joinedFile, joinRefusal, Joinable}
 use Rattle.join.specs.Call.{writtenIn, Joins}

@@ -15,9 +15,9 @@ use Rattle.state.specs.declared.state.State.{State}
 use Rattle.machine.specs.Step.{Step, stepped}
 use Rattle.machine.proofs.Stands.{restart-stands}
 use Rattle.machine.proofs.Ends.{done-loops, done-repeat}
-use Rattle.engine.specs.Run.{isLeft, isDone, Turn, Result}
-use Rattle.engine.specs.Run.Turn.{over, last, next}
-use Rattle.engine.specs.Engine.{Engine, turnOf, engineTurn, engineDone, engineFrom, engineRun}
+use Rattle.runs.specs.Run.{isLeft, isDone, Turn, Result}
+use Rattle.runs.specs.Run.Turn.{over, last, next}
+use Rattle.runs.specs.Engine.{Engine, turnOf, engineTurn, engineDone, engineFrom, engineRun}
 use Rattle.engine.proofs.Fits.{Fit, at-operation, turn-fits}
 use Rattle.engine.proofs.Runs.{Keeps, Avoids, turnTo, run-maps, thenOn, run-then, later}
 use Rattle.engine.proofs.Split.{engine-ends, engine-later}

@@ -8,8 +8,8 @@ use Rattle.state.specs.declared.settings.Settings.{Settings}
 use Rattle.state.specs.declared.state.Loops.{Loops}
 use Rattle.state.specs.declared.state.Core.{Core}
 use Rattle.state.specs.declared.state.State.{State}
-use Rattle.engine.specs.Run.{isDone, Result}
-use Rattle.engine.specs.Engine.{Engine}
+use Rattle.runs.specs.Run.{isDone, Result}
+use Rattle.runs.specs.Engine.{Engine}
 use Rattle.engine.specs.Call.{runOf}
 
 -- ---- counted from the joined program's start: n operations come before the second's

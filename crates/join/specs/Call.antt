@@ -12,7 +12,7 @@ use Rattle.state.specs.Typed.{AreWords, Typed}
 use Rattle.state.specs.declared.settings.Settings.{Settings}
 use Rattle.state.specs.declared.state.State.{State}
 use Rattle.machine.specs.Single.{callRefusal}
-use Rattle.engine.specs.Exact.{holdsClear}
+use Rattle.runs.specs.Exact.{holdsClear}
 use Rattle.engine.specs.Call.{runOf}
 use Rattle.join.specs.Join.{joined, joinedFile, joinRefusal}
 use Rattle.join.specs.Both.{runsBoth}

@@ -1,10 +1,10 @@
 // The call that joins two program files, which asks nothing.
 use crate::joined::write_joined;
+use loader::file::check_file;
+use loader::file::operation_count;
 use program::answer::Answer;
 use program::answer::Refusal;
 use program::answer::Verdict;
-use program::file::check_file;
-use program::file::operation_count;
 ghost use Rattle.join.specs.Call.{Joins};
 
 // A file of the first's operations and then the second's, at the start of `out`; what lies past it stays. Run from its first operation it is the first

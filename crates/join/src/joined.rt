@@ -1,9 +1,9 @@
 // The blocks of a joined file, made one by one: the operations of both files are read in place.
-use operations::encode::encode;
-use program::block::write_block;
-use program::bytes::copy;
-use program::file::last_at;
-use program::file::operation_at;
+use codec::encode::encode;
+use loader::block::write_block;
+use loader::bytes::copy;
+use loader::file::last_at;
+use loader::file::operation_at;
 ghost use mathlib.Core.Path.{_≡_};
 ghost use Prim.Native.Nat.{_+_, _*_, _<_, _≤_, min};
 ghost use lib.ListN.{length, take, drop};

@@ -3,10 +3,12 @@ use crate::state_fields::append_state;
 use crate::state_fields::append_sums;
 use accumulator::limit::Accumulator;
 use combine::call::Combined;
-use engine::ending::Ending;
+use endings::ending::Ending;
 use engine::outcome::Outcome;
 use machine::single::SingleStep;
 use program::answer::Answer;
+use report::notice::Notice;
+use report::verb::Verb;
 use state::state::State;
 use text::buffer::LINE;
 use text::buffer::append;
@@ -24,22 +26,8 @@ ghost use Prim.Native.Nat.{_+_, _≤_};
 ghost use lib.ListN.{take};
 ghost use Rattle.text.specs.Buffer.{Appended, BeginsWith};
 ghost use Rattle.text.specs.Text.{beforeZero, checkOf};
-ghost use Rattle.lines.specs.Line.{lineEnd, endingText, runFields, runLine, allRegisters, longRunLine, tallySums, ofNoRefusal, tallyLine};
-ghost use Rattle.lines.specs.Line.{stepText, stepLine, verbText, unlessRefused, filledLine, combinedFields, combinedLine, noticeText, noticeLine, servedText, serviceText, bagFields};
-
-// What a call that fills a lent slice did.
-pub enum Verb {
-    Loaded,
-    Wrote,
-    Joined,
-}
-
-// Why a case has no answer: it breaks off, it asks for too much, its call has not landed.
-pub enum Notice {
-    Short,
-    TooLarge,
-    Unknown,
-}
+ghost use Rattle.report.specs.Line.{lineEnd, endingText, runFields, runLine, allRegisters, longRunLine, tallySums, ofNoRefusal, tallyLine};
+ghost use Rattle.report.specs.Line.{stepText, stepLine, verbText, unlessRefused, filledLine, combinedFields, combinedLine, noticeText, noticeLine, servedText, serviceText, bagFields};
 
 // The length of a name that zeros fill up.
 fn name_length(name: [u8; 9]) -> usize

@@ -13,7 +13,7 @@ use text::text::append_number;
 ghost use Prim.Native.Nat.{_+_, _≤_};
 ghost use Rattle.text.specs.Buffer.{Appended};
 ghost use Rattle.text.specs.Text.{wordText, fieldsOf};
-ghost use Rattle.lines.specs.Line.{slotField, slotFields, sumFields, controlFields, stateFields};
+ghost use Rattle.report.specs.Line.{slotField, slotFields, sumFields, controlFields, stateFields};
 
 // A slot: DO's number and passes left.
 fn append_slot(out: &mut [u8; LINE], at: usize, start: usize, left: u32) -> usize

@@ -2,9 +2,9 @@
 use crate::step::step;
 use effects::scalars::scalars_of;
 use effects::scalars::state_of;
+use loader::file::check_file;
+use loader::file::operation_count;
 use program::answer::Verdict;
-use program::file::check_file;
-use program::file::operation_count;
 use state::settings::Settings;
 use state::state::State;
 ghost use mathlib.Core.Bool.{false};

@@ -1,7 +1,3 @@
-// Operations of document 01: which are listed, 8 bytes to an operation and back.
-// Each contract says that the answer is what a definition of specs/ gives.
-mod bytes;
+// Operations of document 01: the types, and as definitions which are listed, 8 bytes to an operation and back. There is no code.
 pub mod decode;
-pub mod encode;
-pub mod listed;
 pub mod operation;

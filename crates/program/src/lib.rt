@@ -1,11 +1,4 @@
-// Program files of document 01: where DO and REPEAT may stand, blocks, load and write.
-// Each contract says that the answer, and what stands in a lent slice afterwards, is what a definition of specs/ gives.
-mod accept;
+// Program files of document 01 as definitions: where DO and REPEAT may stand, blocks, load and write. The code is what an answer is by number.
 pub mod answer;
-pub mod block;
-pub mod bytes;
-pub mod file;
-mod layout;
-mod placement;
-pub mod trip;
-pub mod write;
+pub mod layout;
+pub mod placement;

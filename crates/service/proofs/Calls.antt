@@ -15,7 +15,7 @@ use Rattle.state.specs.declared.settings.Settings.{Settings}
 use Rattle.state.specs.declared.state.State.{State}
 use Rattle.machine.specs.Single.{callRefusal}
 use Rattle.machine.proofs.Calls.{call-file, call-settings, call-state}
-use Rattle.engine.specs.Engine.{Engine, engineRun}
+use Rattle.runs.specs.Engine.{Engine, engineRun}
 use Rattle.engine.specs.Call.{runOf}
 use Rattle.state.specs.Typed.{AreWords, Typed}
 use Rattle.service.specs.Service.{Bag, engineOf, engineBefore, firstBefore, Served, engineServed, engineService, engineAfter, callService}

@@ -33,15 +33,15 @@ use Rattle.machine.specs.Step.{operationAt}
 use Rattle.machine.proofs.Words.{IsWord, set-words}
 use Rattle.machine.specs.Single.{callRefusal}
 use Rattle.machine.proofs.CallExamples.{refused}
-use Rattle.engine.specs.Ending.{codeOf}
-use Rattle.engine.specs.Run.{Stop, Result}
-use Rattle.engine.specs.Run.Stop.{ended, left}
-use Rattle.engine.specs.Engine.{Engine}
-use Rattle.engine.specs.Ledger.{Entry, Ledger}
+use Rattle.endings.specs.Ending.{codeOf}
+use Rattle.runs.specs.Run.{Stop, Result}
+use Rattle.runs.specs.Run.Stop.{ended, left}
+use Rattle.runs.specs.Engine.{Engine}
+use Rattle.runs.specs.Ledger.{Entry, Ledger}
 use Rattle.engine.specs.Call.{runOf}
-use Rattle.engine.specs.Holds.{holds}
-use Rattle.engine.proofs.Opened.{engine, exact as exactRuns}
-use Rattle.engine.specs.declared.ending.Ending.the-variants.{Done, Spent, Trap}
+use Rattle.runs.specs.Holds.{holds}
+use Rattle.runs.proofs.Opened.{engine, exact as exactRuns}
+use Rattle.endings.specs.declared.ending.Ending.the-variants.{Done, Spent, Trap}
 use Rattle.service.specs.Service.{Bag, onward, engineOf, firstBefore, Served, engineService, engineAfter, callService, ledgerService}
 use Rattle.service.specs.Exact.{Sound, Every, Pairs, AsFar, NoneLeft, ExactService}
 use Rattle.service.specs.Bags.{Schedule, scheduleOf, filled, firstBags, bagsOf}

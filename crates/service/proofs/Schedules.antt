@@ -18,9 +18,9 @@ use Rattle.state.specs.Typed.{AreWords, Typed}
 use Rattle.state.specs.declared.settings.Settings.{Settings}
 use Rattle.machine.specs.Single.{callRefusal}
 use Rattle.machine.proofs.Words.{take-words, drop-words, append-words}
-use Rattle.engine.specs.Engine.{Engine}
-use Rattle.engine.specs.Ending.{codeOf}
-use Rattle.engine.specs.Run.{Result}
+use Rattle.endings.specs.Ending.{codeOf}
+use Rattle.runs.specs.Engine.{Engine}
+use Rattle.runs.specs.Run.{Result}
 use Rattle.engine.specs.Call.{resultOf}
 use Rattle.engine.specs.declared.outcome.Outcome.{Outcome}
 use Rattle.service.specs.Service.{Bag, engineBefore, firstBefore, Served, engineAfter, callServed, callService}

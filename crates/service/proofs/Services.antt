@@ -14,11 +14,11 @@ use Rattle.program.specs.Placement.{isPlaced}
 use Rattle.state.specs.State.{goTo, noLoops, restartedState}
 use Rattle.state.specs.declared.settings.Settings.{Settings}
 use Rattle.machine.specs.Step.{operationAt}
-use Rattle.engine.specs.Run.{Stop, isLeft, Result}
-use Rattle.engine.specs.Run.Stop.{ended, left}
-use Rattle.engine.specs.Engine.{Engine, engineRun}
-use Rattle.engine.specs.Ledger.{Ledger, ledgerRun}
-use Rattle.engine.specs.Exact.{holdsClear, FlagsClear, NeverLeft, ExactSums}
+use Rattle.runs.specs.Run.{Stop, isLeft, Result}
+use Rattle.runs.specs.Run.Stop.{ended, left}
+use Rattle.runs.specs.Engine.{Engine, engineRun}
+use Rattle.runs.specs.Ledger.{Ledger, ledgerRun}
+use Rattle.runs.specs.Exact.{holdsClear, FlagsClear, NeverLeft, ExactSums}
 use Rattle.engine.proofs.Agree.{SetIn, run-stays}
 use Rattle.engine.proofs.Sums.{exact-sums}
 use Rattle.engine.proofs.Runs.{isSpent, later}

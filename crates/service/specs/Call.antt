@@ -9,10 +9,10 @@ use Rattle.program.specs.Answer.{_then_, ifAccepted}
 use Rattle.program.specs.Bytes.{over}
 use Rattle.state.specs.declared.settings.Settings.{Settings}
 use Rattle.machine.specs.Single.{callRefusal}
-use Rattle.engine.specs.Ending.{codeOf}
-use Rattle.engine.specs.Run.{Stop}
-use Rattle.engine.specs.Run.Stop.{ended, left}
-use Rattle.engine.specs.Engine.{Engine}
+use Rattle.endings.specs.Ending.{codeOf}
+use Rattle.runs.specs.Run.{Stop}
+use Rattle.runs.specs.Run.Stop.{ended, left}
+use Rattle.runs.specs.Engine.{Engine}
 use Rattle.service.specs.Service.{firstBefore, Served, engineAfter, callService}
 use Rattle.service.specs.Exact.{Serves}
 use Rattle.service.specs.Bags.{Schedule, firstBags, bagsOf}

@@ -14,10 +14,10 @@ use Rattle.state.specs.State.{accumulatorAt}
 use Rattle.state.specs.declared.settings.Settings.{Settings}
 use Rattle.state.specs.declared.state.State.{State}
 use Rattle.machine.specs.Single.{callRefusal}
-use Rattle.engine.specs.Engine.{Engine}
-use Rattle.engine.specs.Ledger.{Entry, Ledger}
-use Rattle.engine.specs.Run.{Result}
-use Rattle.engine.specs.Exact.{holdsClear, FlagsClear, NeverLeft, Alike, storedAt}
+use Rattle.runs.specs.Engine.{Engine}
+use Rattle.runs.specs.Ledger.{Entry, Ledger}
+use Rattle.runs.specs.Run.{Result}
+use Rattle.runs.specs.Exact.{holdsClear, FlagsClear, NeverLeft, Alike, storedAt}
 use Rattle.state.specs.Typed.{AreWords}
 use Rattle.service.specs.Service.{Bag, Served, engineService, engineAfter, callService, ledgerService}
 

@@ -7,9 +7,9 @@ use Rattle.state.specs.State.{goTo, noLoops, restartedState}
 use Rattle.state.specs.declared.settings.Settings.{Settings}
 use Rattle.state.specs.declared.state.Core.{Core}
 use Rattle.state.specs.declared.state.State.{State}
-use Rattle.engine.specs.Run.{isLeft, Result}
-use Rattle.engine.specs.Engine.{Engine, engineRun}
-use Rattle.engine.specs.Ledger.{Ledger, ledgerRun}
+use Rattle.runs.specs.Run.{isLeft, Result}
+use Rattle.runs.specs.Engine.{Engine, engineRun}
+use Rattle.runs.specs.Ledger.{Ledger, ledgerRun}
 use Rattle.engine.specs.Call.{runOf}
 
 -- a bag: what the controller makes of the memory, whether the program starts again, and the budget of the run

@@ -8,7 +8,7 @@ use Rattle.state.specs.declared.settings.Settings.{Settings}
 use Rattle.engine.specs.Call.{Runs}
 use Rattle.engine.specs.declared.outcome.Outcome.{Outcome}
 use Rattle.text.specs.Buffer.{BeginsWith}
-use Rattle.lines.specs.Line.{tallyLine}
+use Rattle.report.specs.Line.{tallyLine}
 
 -- 1,024 words X, no correction, trap word 0
 abbrev pub tallySettings : Settings

@@ -8,7 +8,7 @@ use borrow.Author.Tests.{lt-ltb, le-ltb}
 use lib.Dec.{ltb}
 use lib.ListN.{length, drop, take, set, length-append}
 use lib.Seq.{set-split, length-take-le, drop-at, append-snoc, drop-length}
-use Rattle.engine.specs.Ending.{digitOf}
+use Rattle.endings.specs.Ending.{digitOf}
 use Rattle.text.specs.Text.{decimalUpTo, numberText}
 
 -- the digits before the last, at most so many

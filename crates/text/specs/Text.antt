@@ -4,7 +4,7 @@ use mathlib.Core.Bool.{Bool, true, false, cond}
 use mathlib.Core.List.{List, [], _∷_, _++_}
 use lib.Dec.{eqb, ltb}
 use lib.IntN.{ℤ, pos, negsuc}
-use Rattle.engine.specs.Ending.{digitOf}
+use Rattle.endings.specs.Ending.{digitOf}
 
 -- ---- numbers
 

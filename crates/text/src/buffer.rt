@@ -1,5 +1,5 @@
 // A lent buffer that text is put into, one text after the other.
-use program::bytes::copy;
+use loader::bytes::copy;
 ghost use mathlib.Core.Path.{_≡_};
 ghost use Prim.Native.Nat.{_+_, _≤_};
 ghost use lib.ListN.{length};

@@ -5,7 +5,7 @@ ghost use mathlib.Core.Path.{_≡_};
 ghost use Prim.Native.Nat.{_+_, _<_, _≤_};
 ghost use lib.ListN.{length, drop};
 ghost use lib.Signed.{mag};
-ghost use Rattle.engine.specs.Ending.{digitOf};
+ghost use Rattle.endings.specs.Ending.{digitOf};
 ghost use Rattle.text.specs.Buffer.{Appended};
 ghost use Rattle.text.specs.Text.{numberText, signedText, hexDigitOf, wordText};
 

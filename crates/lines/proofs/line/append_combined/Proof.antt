@@ -3,8 +3,8 @@ use borrow.Author.Needs.{needs}
 use mathlib.Core.Path.{_≡_}
 use mir.Syntax.{w64}
 use mir.Val.{toZ, ofZ}
-use Rattle.lines.specs.Line.{combinedFields}
 use Rattle.text.proofs.Appending.{then-text}
+use Rattle.report.specs.Line.{combinedFields}
 use Rattle.lines.proofs.line.append_combined.Statement.{statement}
 use Rattle.lines.proofs.line.append_combined.Tie as tie
 

@@ -4,9 +4,9 @@ use mathlib.Core.Path.{_≡_, ap, _∙_}
 use native.Mathlib.Omega.{arith}
 use native.Mathlib.Nat.{sub-zero}
 use lib.ListN.{take, length-take}
-use Rattle.lines.specs.Line.{endingText}
 use Rattle.text.specs.Text.{beforeZero}
 use Rattle.text.proofs.Appending.{named}
+use Rattle.report.specs.Line.{endingText}
 use Rattle.lines.proofs.line.append_ending.Statement.{statement}
 use Rattle.lines.proofs.line.append_ending.Tie as tie
 

@@ -1,7 +1,7 @@
 -- `line::append_run` meets its contract. Assumes nothing.
 use borrow.Author.Needs.{needs}
-use Rattle.lines.specs.Line.{runFields}
 use Rattle.text.proofs.Appending.{then-text}
+use Rattle.report.specs.Line.{runFields}
 use Rattle.lines.proofs.line.append_run.Statement.{statement}
 use Rattle.lines.proofs.line.append_run.Tie as tie
 

@@ -3,8 +3,8 @@ use borrow.Author.Needs.{needs}
 use mathlib.Core.Path.{refl}
 use lib.Dec.{lit≤}
 use borrow.Author.Tests.{eq-eqb, ne-eqb}
-use Rattle.lines.specs.Line.{stepText}
 use Rattle.text.proofs.Appending.{named}
+use Rattle.report.specs.Line.{stepText}
 use Rattle.lines.proofs.line.append_step.Statement.{statement}
 use Rattle.lines.proofs.line.append_step.Tie as tie
 

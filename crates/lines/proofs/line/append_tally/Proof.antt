@@ -3,9 +3,9 @@ use borrow.Author.Needs.{needs}
 use mathlib.Core.Path.{_≡_, sym, ap}
 use mathlib.Core.List.{[]}
 use lib.Dec.{lit≤}
-use Rattle.engine.specs.declared.ending.Ending.{Ending}
-use Rattle.lines.specs.Line.{tallySums, ofNoRefusal}
+use Rattle.endings.specs.declared.ending.Ending.{Ending}
 use Rattle.text.proofs.Appending.{named, renamed}
+use Rattle.report.specs.Line.{tallySums, ofNoRefusal}
 use Rattle.lines.proofs.line.append_tally.Statement.{statement}
 use Rattle.lines.proofs.line.append_tally.Tie as tie
 

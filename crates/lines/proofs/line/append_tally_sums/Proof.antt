@@ -1,7 +1,7 @@
 -- `line::append_tally_sums` meets its contract. Assumes nothing.
 use borrow.Author.Needs.{needs}
-use Rattle.lines.specs.Line.{tallySums}
 use Rattle.text.proofs.Appending.{then-text}
+use Rattle.report.specs.Line.{tallySums}
 use Rattle.lines.proofs.line.append_tally_sums.Statement.{statement}
 use Rattle.lines.proofs.line.append_tally_sums.Tie as tie
 

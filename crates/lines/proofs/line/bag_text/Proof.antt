@@ -1,7 +1,7 @@
 -- `line::bag_text` meets its contract. Assumes nothing.
 use borrow.Author.Needs.{needs}
-use Rattle.lines.specs.Line.{bagFields}
 use Rattle.text.proofs.Appending.{then-text, at-start}
+use Rattle.report.specs.Line.{bagFields}
 use Rattle.lines.proofs.line.bag_text.Statement.{statement}
 use Rattle.lines.proofs.line.bag_text.Tie as tie
 

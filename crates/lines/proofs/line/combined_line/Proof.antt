@@ -1,7 +1,7 @@
 -- `line::combined_line` meets its contract, answer by answer. Assumes nothing.
 use borrow.Author.Needs.{needs}
-use Rattle.lines.specs.Line.{combinedLine}
 use Rattle.text.proofs.Appending.{then-text, at-start}
+use Rattle.report.specs.Line.{combinedLine}
 use Rattle.lines.proofs.line.combined_line.Statement.{statement}
 use Rattle.lines.proofs.line.combined_line.Tie as tie
 

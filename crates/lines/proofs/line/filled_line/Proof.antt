@@ -1,7 +1,7 @@
 -- `line::filled_line` meets its contract. Assumes nothing.
 use borrow.Author.Needs.{needs}
-use Rattle.lines.specs.Line.{filledLine}
 use Rattle.text.proofs.Appending.{then-text, at-start}
+use Rattle.report.specs.Line.{filledLine}
 use Rattle.lines.proofs.line.filled_line.Statement.{statement}
 use Rattle.lines.proofs.line.filled_line.Tie as tie
 

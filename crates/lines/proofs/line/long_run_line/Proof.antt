@@ -1,7 +1,7 @@
 -- `line::long_run_line` meets its contract. Assumes nothing.
 use borrow.Author.Needs.{needs}
-use Rattle.lines.specs.Line.{longRunLine}
 use Rattle.text.proofs.Appending.{then-text, at-start}
+use Rattle.report.specs.Line.{longRunLine}
 use Rattle.lines.proofs.line.long_run_line.Statement.{statement}
 use Rattle.lines.proofs.line.long_run_line.Tie as tie
 

@@ -1,7 +1,7 @@
 -- `line::notice_line` meets its contract. Assumes nothing.
 use borrow.Author.Needs.{needs}
-use Rattle.lines.specs.Line.{noticeLine}
 use Rattle.text.proofs.Appending.{then-text, at-start}
+use Rattle.report.specs.Line.{noticeLine}
 use Rattle.lines.proofs.line.notice_line.Statement.{statement}
 use Rattle.lines.proofs.line.notice_line.Tie as tie
 

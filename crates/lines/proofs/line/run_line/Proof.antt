@@ -1,7 +1,7 @@
 -- `line::run_line` meets its contract. Assumes nothing.
 use borrow.Author.Needs.{needs}
-use Rattle.lines.specs.Line.{runLine}
 use Rattle.text.proofs.Appending.{then-text, at-start}
+use Rattle.report.specs.Line.{runLine}
 use Rattle.lines.proofs.line.run_line.Statement.{statement}
 use Rattle.lines.proofs.line.run_line.Tie as tie
 

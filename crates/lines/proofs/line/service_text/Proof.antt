@@ -1,7 +1,7 @@
 -- `line::service_text` meets its contract. Assumes nothing.
 use borrow.Author.Needs.{needs}
-use Rattle.lines.specs.Line.{serviceText}
 use Rattle.text.proofs.Appending.{then-text, at-start}
+use Rattle.report.specs.Line.{serviceText}
 use Rattle.lines.proofs.line.service_text.Statement.{statement}
 use Rattle.lines.proofs.line.service_text.Tie as tie
 

@@ -1,7 +1,7 @@
 -- `line::step_line` meets its contract. Assumes nothing.
 use borrow.Author.Needs.{needs}
-use Rattle.lines.specs.Line.{stepLine}
 use Rattle.text.proofs.Appending.{then-text, at-start}
+use Rattle.report.specs.Line.{stepLine}
 use Rattle.lines.proofs.line.step_line.Statement.{statement}
 use Rattle.lines.proofs.line.step_line.Tie as tie
 

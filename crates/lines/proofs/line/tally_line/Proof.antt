@@ -1,7 +1,7 @@
 -- `line::tally_line` meets its contract. Assumes nothing.
 use borrow.Author.Needs.{needs}
-use Rattle.lines.specs.Line.{tallyLine}
 use Rattle.text.proofs.Appending.{then-text, at-start}
+use Rattle.report.specs.Line.{tallyLine}
 use Rattle.lines.proofs.line.tally_line.Statement.{statement}
 use Rattle.lines.proofs.line.tally_line.Tie as tie
 

@@ -1,7 +1,7 @@
 -- `state_fields::append_control` meets its contract. Assumes nothing.
 use borrow.Author.Needs.{needs}
-use Rattle.lines.specs.Line.{controlFields}
 use Rattle.text.proofs.Appending.{then-text}
+use Rattle.report.specs.Line.{controlFields}
 use Rattle.lines.proofs.state_fields.append_control.Statement.{statement}
 use Rattle.lines.proofs.state_fields.append_control.Tie as tie
 

@@ -1,7 +1,7 @@
 -- `state_fields::append_slots` meets its contract. Assumes nothing.
 use borrow.Author.Needs.{needs}
-use Rattle.lines.specs.Line.{slotFields}
 use Rattle.text.proofs.Appending.{then-text}
+use Rattle.report.specs.Line.{slotFields}
 use Rattle.lines.proofs.state_fields.append_slots.Statement.{statement}
 use Rattle.lines.proofs.state_fields.append_slots.Tie as tie
 

@@ -1,7 +1,7 @@
 -- `state_fields::append_state` meets its contract. Assumes nothing.
 use borrow.Author.Needs.{needs}
-use Rattle.lines.specs.Line.{stateFields}
 use Rattle.text.proofs.Appending.{then-text}
+use Rattle.report.specs.Line.{stateFields}
 use Rattle.lines.proofs.state_fields.append_state.Statement.{statement}
 use Rattle.lines.proofs.state_fields.append_state.Tie as tie
 

@@ -3,8 +3,8 @@ use borrow.Author.Needs.{needs}
 use mathlib.Core.Path.{_≡_}
 use mir.Syntax.{w64}
 use mir.Val.{toZ, ofZ}
-use Rattle.lines.specs.Line.{sumFields}
 use Rattle.text.proofs.Appending.{then-text}
+use Rattle.report.specs.Line.{sumFields}
 use Rattle.lines.proofs.state_fields.append_sums.Statement.{statement}
 use Rattle.lines.proofs.state_fields.append_sums.Tie as tie
 

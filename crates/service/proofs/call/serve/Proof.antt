@@ -9,7 +9,7 @@ use Rattle.state.specs.Typed.{AreWords}
 use Rattle.state.specs.declared.state.State.{State}
 use Rattle.state.proofs.Typing.{typed-state}
 use Rattle.machine.specs.Single.{callRefusal}
-use Rattle.engine.specs.Engine.{Engine}
+use Rattle.runs.specs.Engine.{Engine}
 use Rattle.service.specs.Service.{engineOf, firstBefore}
 use Rattle.service.specs.Bags.{Schedule, scheduleOf, bagsOf}
 use Rattle.service.proofs.Schedules.{first-state, service-refused, refused-first, refused-short, service-served}

@@ -4,7 +4,7 @@ use Rattle.text.proofs.buffer.append_in.Statement.{statement}
 use Rattle.text.proofs.buffer.append_in.Tie as tie
 use Rattle.text.proofs.buffer.append_in.Reads as reads
 use Rattle.text.proofs.buffer.append_in.Lts as lts
-use Rattle.program.proofs.bytes.copy.Reads as copy-reads
+use Rattle.loader.proofs.bytes.copy.Reads as copy-reads
 
 -- src/buffer.rt:23:16
 sub-copy : tie.Need-sub-copy

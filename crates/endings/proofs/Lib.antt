@@ -1,0 +1,2 @@
+pub mod NameExamples
+pub mod Names

@@ -1,0 +1,2 @@
+// How a run ends, by name, number and code.
+pub mod ending;

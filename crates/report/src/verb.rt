@@ -1,0 +1,6 @@
+// What a call that fills a lent slice did.
+pub enum Verb {
+    Loaded,
+    Wrote,
+    Joined,
+}
