@@ -1,28 +1,54 @@
 #!/usr/bin/env bash
-# Ten million MAC steps or bit-reversed stores by the proved engine and by the Rust interpreter of docs/src on the same case, both optimised, by turns, three times each.
+# Ten million steps by the proved engine, over decoded operations and from the file, by the tuned interpreter and by the simple simulator of
+# docs/src, all optimised, by turns, eleven rounds: the medians of user and system seconds, and the engine's over each of the other two.
+# ENGINE names another program `cases` than the one that `rt check` proves.
 set -euo pipefail
-cd "$(dirname "$0")/../.."
+root=$(realpath "$(dirname "$0")/../..")
+engine=$(realpath -m "${ENGINE:-$root/target/bin/cases}")
+cd "$root"
 export PATH="$HOME/.cargo/bin:$PATH"
-rt check cases >/dev/null
+[ -n "${ENGINE:-}" ] || rt check cases >/dev/null
 (cd docs/src && cargo build --profile speed --offline --locked --quiet)
+rust=${CARGO_TARGET_DIR:-docs/src/target}/speed
+rounds=11
+work=$(mktemp -d)
+trap 'rm -rf "$work"' EXIT
 
-# Runs a program on a case: `seconds` is the time it takes, `line` what it prints.
-timed() { # PROGRAM CASE
-    local began ended
-    began=$(date +%s%N)
-    line=$("$1" <"docs/speed/$2.case")
-    ended=$(date +%s%N)
-    seconds=$(awk -v n=$((ended - began)) 'BEGIN { printf "%.3f", n / 1e9 }')
+# Runs a program on a case: keeps the line it prints, adds its time to those under the same name.
+timed() { # NAME PROGRAM CASE
+    local TIMEFORMAT='%3U %3S'
+    { time "$2" <"docs/speed/$3.case" >"$work/$1.line"; } 2>>"$work/$1.times"
 }
 
-printf '%-8s %8s %8s %6s\n' case proved rust ratio
-for case in repeat loop reversed; do
-    for turn in 1 2 3; do
-        timed target/bin/cases "$case"
-        proved=$seconds said=$line
-        timed docs/src/target/speed/cases "$case"
-        [ "$line" = "$said" ] || { echo "the two disagree on $case" >&2; exit 1; }
-        ratio=$(awk -v a="$proved" -v b="$seconds" 'BEGIN { printf "%.2f", a / b }')
-        printf '%-8s %8s %8s %6s\n' "$case" "$proved" "$seconds" "$ratio"
+# What the line of a run begins with in every form; `unknown` of a call that the engine does not have.
+run_line() { cut -d ' ' -f 1-28 "$work/$1.line"; }
+
+# All four by turns, which must print the same.
+one_round() { # CASE
+    timed decoded "$engine" "$1-decoded"
+    timed file "$engine" "$1"
+    timed tuned "$rust/tuned" "$1"
+    timed simple "$rust/cases" "$1"
+    for name in decoded tuned simple; do
+        case "$name $(run_line $name)" in
+        "$name $(run_line file)" | "decoded unknown") ;;
+        *) echo "time: $name prints another line than file on $1" >&2; exit 1 ;;
+        esac
+    done
+}
+
+median() { awk '{ print $1 + $2 }' "$work/$1.times" | sort -n | sed -n "$((rounds / 2 + 1))p"; }
+
+echo "case      call      engine   tuned  simple  /tuned /simple"
+for case in loop repeat reversed; do
+    rm -f "$work"/*
+    for ((round = 0; round < rounds; round++)); do one_round $case; done
+    for call in decoded file; do
+        if [ "$(run_line $call)" = unknown ]; then
+            printf '%-9s %-8s unknown to this engine\n' $case $call
+            continue
+        fi
+        echo $case $call "$(median $call)" "$(median tuned)" "$(median simple)" |
+            awk '{ printf "%-9s %-8s %7.3f %7.3f %7.3f %7.2f %7.2f\n", $1, $2, $3, $4, $5, $3 / $4, $3 / $5 }'
     done
 done

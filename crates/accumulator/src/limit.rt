@@ -32,7 +32,7 @@ pub fn left(mode: Mode, target: Target, r: i64) -> bool
 }
 
 // The low 40 bits of r, read as signed.
-fn low40(r: i64) -> i64
+pub fn low40(r: i64) -> i64
     ensures { λ v. ⌜ v ≡ signedOf 40 (lowBits 40 r) ⌝ }
 {
     let low = r & 0xff_ffff_ffff;

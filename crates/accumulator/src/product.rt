@@ -13,11 +13,8 @@ pub struct Factor {
 pub fn signed(word: u16) -> i64
     ensures { λ r. ⌜ r ≡ signedOf 16 word ⌝ }
 {
-    if word < 32768 {
-        word as i64
-    } else {
-        word as i64 - 65536
-    }
+    let raised = std::num::wrapping_add_u16(word, 32768);
+    raised as i64 - 32768
 }
 
 // A factor's number.

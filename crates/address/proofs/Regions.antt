@@ -4,7 +4,7 @@ use mathlib.Core.Path.{_≡_, refl, sym}
 use mathlib.Core.Bool.{Bool, true, false, cond, _&&_}
 use Prim.Native.Nat.{ℕ, _%_, _≤_, _<_}
 use native.Mathlib.Omega.{arith}
-use borrow.Author.Tests.{leb-true, ltb-true, eqb-false, le-leb, lt-ltb, ne-eqb}
+use borrow.Author.Tests.{leb-true, ltb-true, eqb-true, eqb-false, le-leb, lt-ltb, ne-eqb}
 use lib.Dec.{leb, ltb, eqb, lit≤}
 use Rattle.integers.proofs.Whole.{both, by-test}
 use Rattle.address.specs.declared.region.Region.{Region}
@@ -38,6 +38,12 @@ free-word region a e =
     let inside = both (leb (addressOf 0) a) (leb (region .first .0) i && ltb i (region .end .0)) (zero-first (isInside region a) (t .1)) in
     let part = both (leb (region .first .0) i) (ltb i (region .end .0)) (inside .1) in
     (sym (address-word a (leb-true (addressOf 0) a (inside .0)) even), leb-true (region .first .0) i (part .0), ltb-true i (region .end .0) (part .1))
+
+-- inside its region an odd access has trap 1, an even one none
+pub inside-odd : (region : Region) (a : ℕ) → isInside region a ≡ true → a % 2 ≡ accessTrap region a
+unfolding accessTrap
+inside-odd region a h =
+    rw h (by-test (λ (n : ℕ). a % 2 ≡ n) (eqb (a % 2) 1) (λ e. eqb-true (a % 2) 1 e) (λ e. omega (arith, eqb-false (a % 2) 1 e)))
 
 -- 1, 2 or none
 pub access-most : (region : Region) (a : ℕ) → accessTrap region a ≤ 2

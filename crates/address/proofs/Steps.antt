@@ -1,6 +1,6 @@
 -- Sums and steps have 16 bits, the circular step takes the cases of its definition, and its i64 sums fit: by arithmetic. Assumes nothing.
-use mathlib.Core.Path.{_≡_, sym, _∙_}
-use mathlib.Core.Bool.{true, false}
+use mathlib.Core.Path.{_≡_, refl, sym, _∙_}
+use mathlib.Core.Bool.{Bool, true, false, _||_}
 use Prim.Native.Nat.{ℕ, _+_, _^_, _<_}
 use native.Mathlib.Nat.{mod-lt}
 use native.Mathlib.Omega.{arith}
@@ -11,7 +11,7 @@ use mir.Syntax.{w16, w64}
 use mir.Val.{Fits, SFits, toZ, ofZ}
 use mir.Facts.{toZ-ofZ}
 use Rattle.integers.specs.Bits.{lowBits}
-use Rattle.integers.proofs.Whole.{whole, size, sum, less}
+use Rattle.integers.proofs.Whole.{whole, size, sum, less, neither, by-test}
 use Rattle.integers.proofs.Fitting.{word-plain}
 use Rattle.integers.proofs.Low.{low-size}
 use Rattle.address.specs.declared.step.Buffer.{Buffer}
@@ -50,11 +50,8 @@ module _ {s e : ℕ} (h : Fits w16 s) (l : Fits w16 e) where
   pub size-fits : SFits w64 (sizeOf s e)
   size-fits = omega (arith, size-small)
 
-less-fits : (to n : ℤ) → mag to < 2 ^ 17 → mag n < 2 ^ 17 → SFits w64 (to -ℤ n)
-less-fits to n h l = omega (whole, size (to -ℤ n), less to n, size to, size n)
-
-more-fits : (to n : ℤ) → mag to < 2 ^ 17 → mag n < 2 ^ 17 → SFits w64 (to +ℤ n)
-more-fits to n h l = omega (whole, size (to +ℤ n), sum to n, size to, size n)
+bytes-fit : (to n : ℤ) → mag to < 2 ^ 17 → mag n < 2 ^ 17 → SFits w64 (to -ℤ n) × SFits w64 (to +ℤ n)
+bytes-fit to n h l = (omega (whole, size (to -ℤ n), less to n, size to, size n), omega (whole, size (to +ℤ n), sum to n, size to, size n))
 
 -- ---- the cases
 
@@ -64,9 +61,13 @@ pub elsewhere :
 unfolding circularOf steppedOf
 elsewhere buffer old step h = rw h
 
--- what the code knows where the old address is within: its local `to` is the unreduced sum
+-- of two tests of which one holds, the first does where the second does not
+first-holds : (t u : Bool) → (t || u) ≡ true → u ≡ false → t ≡ true
+first-holds true u h e = refl
+first-holds false u h e = sym e ∙ h
+
+-- what the code knows of its local `to`: it is the unreduced sum
 pub record Known (buffer : Buffer) (old : ℕ) (step to : ℤ) : Type 0 where
-  pub within : isWithin (buffer .start .0) (buffer .last .0) old ≡ true
   pub start : Fits w16 (buffer .start .0)
   pub last : Fits w16 (buffer .last .0)
   pub small : mag (pos old +ℤ step) < 2 ^ 17
@@ -77,12 +78,6 @@ abbrev pub Sized : Buffer → ℤ → Type 0
 Sized buffer bytes = toZ w64 (ofZ w64 bytes) ≡ sizeOf (buffer .start .0) (buffer .last .0)
 
 module _ {buffer : Buffer} {old : ℕ} {step to : ℤ} (k : Known buffer old step to) where
-  pub less-bytes-fits : (bytes : ℤ) → Sized buffer bytes → SFits w64 (toZ w64 (ofZ w64 to) -ℤ toZ w64 (ofZ w64 bytes))
-  less-bytes-fits bytes n = rw (k .to-is, n) (less-fits (pos old +ℤ step) (sizeOf (buffer .start .0) (buffer .last .0)) (k .small) (size-small (k .start) (k .last)))
-
-  pub more-bytes-fits : (bytes : ℤ) → Sized buffer bytes → SFits w64 (toZ w64 (ofZ w64 to) +ℤ toZ w64 (ofZ w64 bytes))
-  more-bytes-fits bytes n = rw (k .to-is, n) (more-fits (pos old +ℤ step) (sizeOf (buffer .start .0) (buffer .last .0)) (k .small) (size-small (k .start) (k .last)))
-
   -- the code's tests are the definition's
   last-test : ltZ (toZ w64 (buffer .last .0)) (toZ w64 (ofZ w64 to)) ≡ ltZ (pos (buffer .last .0)) (pos old +ℤ step)
   last-test = rw (k .to-is, word-plain (k .last))
@@ -90,24 +85,31 @@ module _ {buffer : Buffer} {old : ℕ} {step to : ℤ} (k : Known buffer old ste
   start-test : ltZ (toZ w64 (ofZ w64 to)) (toZ w64 (buffer .start .0)) ≡ ltZ (pos old +ℤ step) (pos (buffer .start .0))
   start-test = rw (k .to-is, word-plain (k .start))
 
-  pub above :
-      (bytes : ℤ) → Sized buffer bytes
-      → ltZ (toZ w64 (buffer .last .0)) (toZ w64 (ofZ w64 to)) ≡ true
-      → lowBits 16 (toZ w64 (ofZ w64 (toZ w64 (ofZ w64 to) -ℤ toZ w64 (ofZ w64 bytes)))) ≡ circularOf buffer old step
-  unfolding circularOf correctedOf
-  above bytes n t = rw (toZ-ofZ (less-bytes-fits bytes n), k .to-is, n, k .within, sym last-test ∙ t)
-
-  pub below :
-      (bytes : ℤ) → Sized buffer bytes
-      → ltZ (toZ w64 (buffer .last .0)) (toZ w64 (ofZ w64 to)) ≡ false
-      → ltZ (toZ w64 (ofZ w64 to)) (toZ w64 (buffer .start .0)) ≡ true
-      → lowBits 16 (toZ w64 (ofZ w64 (toZ w64 (ofZ w64 to) +ℤ toZ w64 (ofZ w64 bytes)))) ≡ circularOf buffer old step
-  unfolding circularOf correctedOf
-  below bytes n t u = rw (toZ-ofZ (more-bytes-fits bytes n), k .to-is, n, k .within, sym last-test ∙ t, sym start-test ∙ u)
-
   pub between :
-      ltZ (toZ w64 (buffer .last .0)) (toZ w64 (ofZ w64 to)) ≡ false
-      → ltZ (toZ w64 (ofZ w64 to)) (toZ w64 (buffer .start .0)) ≡ false
+      (ltZ (toZ w64 (ofZ w64 to)) (toZ w64 (buffer .start .0)) || ltZ (toZ w64 (buffer .last .0)) (toZ w64 (ofZ w64 to))) ≡ false
       → steppedOf old step ≡ circularOf buffer old step
   unfolding circularOf correctedOf steppedOf
-  between t u = rw (k .within, sym last-test ∙ t, sym start-test ∙ u)
+  between t =
+      let sum = pos old +ℤ step in
+      let parts = neither (ltZ (toZ w64 (ofZ w64 to)) (toZ w64 (buffer .start .0))) (ltZ (toZ w64 (buffer .last .0)) (toZ w64 (ofZ w64 to))) t in
+      rw (sym last-test ∙ parts .1, sym start-test ∙ parts .0)
+      (by-test (λ (z : ℤ). lowBits 16 sum ≡ lowBits 16 z) (isWithin (buffer .start .0) (buffer .last .0) old) (λ e. refl) (λ e. refl))
+
+  -- the buffer's bytes are taken off or added
+  module _ (bytes : ℤ) (n : Sized buffer bytes) where
+    pub to-fits : SFits w64 (toZ w64 (ofZ w64 to) -ℤ toZ w64 (ofZ w64 bytes)) × SFits w64 (toZ w64 (ofZ w64 to) +ℤ toZ w64 (ofZ w64 bytes))
+    to-fits = rw (k .to-is, n) (bytes-fit (pos old +ℤ step) (sizeOf (buffer .start .0) (buffer .last .0)) (k .small) (size-small (k .start) (k .last)))
+
+    module _ (within : isWithin (buffer .start .0) (buffer .last .0) old ≡ true) where
+      pub above :
+          ltZ (toZ w64 (buffer .last .0)) (toZ w64 (ofZ w64 to)) ≡ true
+          → lowBits 16 (toZ w64 (ofZ w64 (toZ w64 (ofZ w64 to) -ℤ toZ w64 (ofZ w64 bytes)))) ≡ circularOf buffer old step
+      unfolding circularOf correctedOf
+      above t = rw (toZ-ofZ (to-fits .0), k .to-is, n, within, sym last-test ∙ t)
+
+      pub below :
+          (ltZ (toZ w64 (ofZ w64 to)) (toZ w64 (buffer .start .0)) || ltZ (toZ w64 (buffer .last .0)) (toZ w64 (ofZ w64 to))) ≡ true
+          → ltZ (toZ w64 (buffer .last .0)) (toZ w64 (ofZ w64 to)) ≡ false
+          → lowBits 16 (toZ w64 (ofZ w64 (toZ w64 (ofZ w64 to) +ℤ toZ w64 (ofZ w64 bytes)))) ≡ circularOf buffer old step
+      unfolding circularOf correctedOf
+      below out t = rw (toZ-ofZ (to-fits .1), k .to-is, n, within, sym last-test ∙ t, sym start-test ∙ first-holds _ _ out t)

@@ -43,7 +43,7 @@ impl Region {
     }
 }
 
-// Whether a lies in a word of the region.
+// Whether a lies in a word of the region. The word is asked for only where there is one.
 pub fn inside(region: Region, a: ByteAddress) -> bool
     ensures { λ r. ⌜ r ≡ isInside region (a .0) ⌝ }
 {
@@ -51,20 +51,24 @@ pub fn inside(region: Region, a: ByteAddress) -> bool
     let end = region.end.0;
     let start = MEMORY_START.0;
     let at = a.0;
-    let i = a.word();
-    let w = i.0;
-    (start <= at) & ((first <= w) & (w < end))
+    if start <= at {
+        let i = a.word();
+        let w = i.0;
+        (first <= w) & (w < end)
+    } else {
+        false
+    }
 }
 
-// The trap of an access at a: 1 odd address, 2 outside its region, 0 none.
+// The trap of an access at a: 1 odd address, 2 outside its region, 0 none. Inside its region it is the lowest bit of a.
 pub fn trap(region: Region, a: ByteAddress) -> u8
     ensures { λ r. ⌜ r ≡ accessTrap region (a .0) ⌝ }
 {
     let at = a.0;
-    if at % 2 == 1 {
+    if inside(region, a) {
+        (at % 2) as u8
+    } else if at % 2 == 1 {
         1
-    } else if inside(region, a) {
-        0
     } else {
         2
     }

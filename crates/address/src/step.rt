@@ -70,12 +70,14 @@ pub fn circular(buffer: Buffer, old: ByteAddress, step: i16) -> ByteAddress
     let s = start.0;
     let e = last.0;
     let at = old.0;
-    if (s <= at) & (at <= e) {
-        let to = unreduced(old, step);
-        if (e as i64) < to {
-            ByteAddress(low_word(to - size(start, last)))
-        } else if to < s as i64 {
-            ByteAddress(low_word(to + size(start, last)))
+    let to = unreduced(old, step);
+    if (to < s as i64) | ((e as i64) < to) {
+        if (s <= at) & (at <= e) {
+            if (e as i64) < to {
+                ByteAddress(low_word(to - size(start, last)))
+            } else {
+                ByteAddress(low_word(to + size(start, last)))
+            }
         } else {
             stepped(old, step)
         }

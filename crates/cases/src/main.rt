@@ -1,9 +1,10 @@
-// Cases from standard input, each answered by a line on standard output: a run, a load, a write, a join or boards combined, in the short form or
-// the long one.
+// Cases from standard input, each answered by a line on standard output: a run, a load, a write, a join, a run over decoded operations or boards
+// combined, in the short form or the long one.
 use combine::board::Board;
 use combine::call::Combined;
 use combine::call::combine;
 use engine::call::run;
+use engine::decoded::run_decoded;
 use engine::outcome::Outcome;
 use join::call::join;
 use libc::STDIN_FILENO;
@@ -14,6 +15,8 @@ use loader::write::write;
 use program::answer::Answer;
 use report::notice::Notice;
 use report::verb::Verb;
+use state::settings::Settings;
+use state::state::State;
 use stream::boards::boards;
 use stream::header;
 use stream::memory::fill;
@@ -21,6 +24,7 @@ use text::buffer::LINE;
 ghost use mathlib.Core.Path.{_≡_};
 ghost use Prim.Native.Nat.{_*_, _≤_};
 ghost use lib.ListN.{length};
+ghost use Rattle.engine.specs.Decoded.{RunsDecoded};
 ghost use Rattle.combine.specs.Call.{Combines};
 ghost use Rattle.join.specs.Call.{Joins};
 
@@ -30,6 +34,8 @@ const LONG: u8 = 16;
 const RUN: u8 = 16;
 // A join.
 const JOIN: u8 = 17;
+// A run over decoded operations.
+const DECODED: u8 = 21;
 // Boards combined.
 const COMBINE: u8 = 22;
 
@@ -112,6 +118,48 @@ fn answer_join(first: &[u8], second: &[u8], out: &mut [u8]) {
     print_filled(Verb::Joined, answer, out);
 }
 
+// What stands in the lent slice before a run over decoded operations.
+fn count_up_words(slice: &mut [u16]) {
+    let mut i = 0;
+    while i < slice.len() {
+        slice[i] = (i % 251) as u16;
+        i += 1;
+    }
+}
+
+// A run over decoded operations, by the promise of the call.
+fn ran_decoded(
+    file: &[u8],
+    settings: Settings,
+    state: State,
+    memory: &mut [u16],
+    budget: u32,
+    slice: &mut [u16],
+) -> Outcome
+    ensures { λ r. ⌜ RunsDecoded (now (file .entry)) settings state (now (memory .entry)) budget (now (slice .entry)) r (now (memory .exit)) (now (slice .exit)) ⌝ }
+{
+    run_decoded(file, settings, state, memory, budget, slice)
+}
+
+// The line of a run over decoded operations.
+fn print_decoded(outcome: Outcome, memory: &[u16], slice: &[u16]) {
+    let mut text = [0u8; LINE];
+    let n = line::decoded_run_line(&mut text, outcome, memory, slice);
+    print_start(text, n);
+}
+
+// A run over decoded operations, and its line.
+fn answer_decoded(head: [u8; 320], file: &[u8], bytes: &[u8], memory: &mut [u16], slice: &mut [u16])
+    requires { ⌜ 2 * length (now memory) ≤ length (now bytes) ⌝ }
+{
+    fill(memory, bytes);
+    count_up_words(slice);
+    let settings = header::settings(head);
+    let state = header::state(head);
+    let outcome = ran_decoded(file, settings, state, memory, header::budget(head), slice);
+    print_decoded(outcome, memory, slice);
+}
+
 // Boards combined, by the promise of the call.
 fn combined(boards: [Board; 8], count: usize, mode: u16) -> Combined
     ensures { λ r. ⌜ Combines boards count mode r ⌝ }
@@ -155,6 +203,15 @@ fn room(head: [u8; 320]) -> usize {
     }
 }
 
+// The words of the lent slice: L of a run over decoded operations, none of the others.
+fn slice_words(head: [u8; 320]) -> usize {
+    if header::what(head) == DECODED {
+        header::lent(head)
+    } else {
+        0
+    }
+}
+
 // The answer to a case.
 fn answer(
     head: [u8; 320],
@@ -163,6 +220,7 @@ fn answer(
     bytes: &[u8],
     memory: &mut [u16],
     out: &mut [u8],
+    slice: &mut [u16],
 )
     requires { ⌜ 2 * length (now memory) ≤ length (now bytes) ⌝ }
 {
@@ -173,6 +231,8 @@ fn answer(
         answer_run(head, file, bytes, memory);
     } else if what == JOIN {
         answer_join(file, second, out);
+    } else if what == DECODED {
+        answer_decoded(head, file, bytes, memory, slice);
     } else if what == COMBINE {
         answer_combine(head, file);
     } else {
@@ -211,13 +271,14 @@ fn rest(
     bytes: &mut [u8],
     memory: &mut [u16],
     out: &mut [u8],
+    slice: &mut [u16],
 ) -> bool
     requires { ⌜ 2 * length (now memory) ≤ length (now bytes) ⌝ }
 {
     if !read_parts(file, second, bytes) {
         return stop(Notice::Short);
     }
-    answer(head, file, second, bytes, memory, out);
+    answer(head, file, second, bytes, memory, out, slice);
     true
 }
 
@@ -229,11 +290,13 @@ fn after_header(
     bytes: &mut [u8],
     memory: &mut [u16],
     out: &mut [u8],
+    slice: &mut [u16],
 ) -> bool {
     let f = header::file_size(head);
     let g = header::second_size(head);
     let m = header::memory_words(head);
     let r = room(head);
+    let l = slice_words(head);
     if file.len() < f {
         return stop(Notice::TooLarge);
     }
@@ -249,6 +312,9 @@ fn after_header(
     if out.len() < r {
         return stop(Notice::TooLarge);
     }
+    if slice.len() < l {
+        return stop(Notice::TooLarge);
+    }
     rest(
         head,
         &mut file[0..f],
@@ -256,6 +322,7 @@ fn after_header(
         &mut bytes[0..2 * m],
         &mut memory[0..m],
         &mut out[0..r],
+        &mut slice[0..l],
     )
 }
 
@@ -282,6 +349,7 @@ fn case(
     bytes: &mut [u8],
     memory: &mut [u16],
     out: &mut [u8],
+    slice: &mut [u16],
 ) -> bool {
     let mut head = [0u8; 320];
     let got = read_head(&mut head);
@@ -291,13 +359,20 @@ fn case(
     if got < header_size(header::what(head)) {
         return stop(Notice::Short);
     }
-    after_header(head, file, second, bytes, memory, out)
+    after_header(head, file, second, bytes, memory, out, slice)
 }
 
 // All cases: the count of turns is one that no input uses up.
-fn cases(file: &mut [u8], second: &mut [u8], bytes: &mut [u8], memory: &mut [u16], out: &mut [u8]) {
+fn cases(
+    file: &mut [u8],
+    second: &mut [u8],
+    bytes: &mut [u8],
+    memory: &mut [u16],
+    out: &mut [u8],
+    slice: &mut [u16],
+) {
     let mut turns = u64::MAX;
-    while turns > 0 && case(file, second, bytes, memory, out) {
+    while turns > 0 && case(file, second, bytes, memory, out, slice) {
         turns -= 1;
     }
 }
@@ -308,5 +383,13 @@ fn main() {
     let mut bytes = [0u8; 65536];
     let mut memory = [0u16; 32768];
     let mut out = [0u8; 65536];
-    cases(&mut file, &mut second, &mut bytes, &mut memory, &mut out);
+    let mut slice = [0u16; 65536];
+    cases(
+        &mut file,
+        &mut second,
+        &mut bytes,
+        &mut memory,
+        &mut out,
+        &mut slice,
+    );
 }

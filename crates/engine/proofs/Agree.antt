@@ -31,7 +31,7 @@ use Rattle.runs.specs.Ledger.{Entry, Ledger, exactTrap, keepExact, exactTurn, l
 use Rattle.runs.specs.Ledger.Beyond.{stops}
 use Rattle.runs.specs.Exact.{holdsClear, FlagsClear}
 use Rattle.runs.proofs.Holds.{holds-none}
-use Rattle.engine.proofs.Runs.{Keeps, run-keeps, keeps-so, Into, TurnsAlike, AlikeWhere, AlikeUnless, run-alike}
+use Rattle.legs.proofs.Runs.{Keeps, run-keeps, keeps-so, Into, TurnsAlike, AlikeWhere, AlikeUnless, run-alike}
 
 -- ---- what agreement is
 

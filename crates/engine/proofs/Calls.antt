@@ -25,10 +25,10 @@ use Rattle.runs.specs.Ledger.{onwardRun}
 use Rattle.runs.specs.Wraps.{holdsBarred, isSaturating}
 use Rattle.engine.specs.Call.{resultOf, refused, runOf, Runs, stopName, stopNumber}
 use Rattle.engine.specs.declared.outcome.Outcome.{Outcome}
-use Rattle.engine.proofs.Runs.{run-within}
+use Rattle.legs.proofs.Runs.{run-within}
 use Rattle.engine.proofs.Sums.{exact-sums}
 use Rattle.engine.proofs.Overflow.{wraps}
-use Rattle.engine.proofs.Fits.{Fit, run-fits, file-listed}
+use Rattle.legs.proofs.Fits.{Fit, run-fits, file-listed}
 use Rattle.engine.proofs.Endings.{one-to-seven, isRunStop, run-ends}
 
 module _ (file : List ℕ) (settings : Settings) (s : State) (memory : List ℕ) (budget : ℕ) where

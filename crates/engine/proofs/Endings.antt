@@ -20,7 +20,7 @@ use Rattle.runs.specs.Run.{Stop, Turn}
 use Rattle.runs.specs.Run.Stop.{ended, left}
 use Rattle.runs.specs.Run.Turn.{over, last, next}
 use Rattle.runs.specs.Engine.{Engine, engineTurn, engineDone, engineRun}
-use Rattle.engine.proofs.Runs.{by-run}
+use Rattle.legs.proofs.Runs.{by-run}
 
 -- the number of a trap or a refusal
 pub one-to-seven : (n : ℕ) → (n ≡ 0 → ⊥) → n ≤ 7 → leb 1 n && leb n 7 ≡ true

@@ -1,5 +1,4 @@
 pub mod CallExamples
-pub mod Runs
 pub mod Agree
 pub mod Split
 pub mod Stored
@@ -8,8 +7,7 @@ pub mod SameWorks
 pub mod SameSteps
 pub mod Overflow
 pub mod Onward
-pub mod Fits
 pub mod Steps
-pub mod Along
 pub mod Endings
 pub mod Calls
+pub mod Windows

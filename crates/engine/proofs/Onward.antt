@@ -25,7 +25,7 @@ use Rattle.runs.specs.Run.Turn.{last, next}
 use Rattle.runs.specs.Ledger.{Entry, Ledger, exactTrap, keepExact, exactTurn, ledgerDone, exactFrom, exactRun, ledgerRun, onwardRun}
 use Rattle.runs.specs.Ledger.Beyond.{stops, goesOn}
 use Rattle.runs.specs.Exact.{NeverLeft}
-use Rattle.engine.proofs.Runs.{keeps-true, Into, TurnsAlike, AlikeWhere, AlikeUnless, run-alike}
+use Rattle.legs.proofs.Runs.{keeps-true, Into, TurnsAlike, AlikeWhere, AlikeUnless, run-alike}
 
 -- r is kept, wherever it lies, with its O flag; the step is counted, and its store stays on the list
 pub onward-keeps : (p : List Operation) (traps : ℕ) (m : Mode) (o : Operation) (t : Target) (r : ℤ) (c : Core) (memory : List ℕ) (l : List Entry)

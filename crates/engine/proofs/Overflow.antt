@@ -16,7 +16,7 @@ use Rattle.runs.specs.Engine.{Engine, engineTurn, engineDone, engineFrom, engin
 use Rattle.runs.specs.Ledger.{Ledger, ledgerDone, exactTurn, exactFrom, exactRun, onwardRun}
 use Rattle.runs.specs.Ledger.Beyond.{goesOn}
 use Rattle.runs.specs.Wraps.{holdsBarred, isSaturating, Matches, Wraps}
-use Rattle.engine.proofs.Runs.{RunsAlike, alike, run-alike}
+use Rattle.legs.proofs.Runs.{RunsAlike, alike, run-alike}
 use Rattle.engine.proofs.SameSteps.{Going, Nowhere, step-going}
 
 going-matches : (x : Engine) (y : Ledger) → Going x y → Matches x y

@@ -37,7 +37,7 @@ use Rattle.runs.specs.Ledger.{Entry, Ledger, exactTrap, keepExact, exactTurn}
 use Rattle.runs.specs.Ledger.Beyond.{goesOn}
 use Rattle.runs.specs.Wraps.{isBarred, holdsBarred, isSaturating}
 use Rattle.runs.proofs.Holds.{holds-none}
-use Rattle.engine.proofs.Runs.{TurnsAlike}
+use Rattle.legs.proofs.Runs.{TurnsAlike}
 use Rattle.engine.proofs.SameWorks.{SameWork, unbarred}
 
 -- ---- what they have in common

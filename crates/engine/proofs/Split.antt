@@ -22,7 +22,7 @@ use Rattle.runs.specs.Run.Stop.{ended}
 use Rattle.runs.specs.Run.Turn.{last, next}
 use Rattle.runs.specs.Engine.{Engine, engineTurn, engineDone, engineFrom, engineRun}
 use Rattle.runs.specs.Ledger.{Entry, Ledger, Beyond, stopsAt, exactTrap, keepExact, exactTurn, ledgerDone, exactFrom, exactRun}
-use Rattle.engine.proofs.Runs.{Avoids, isSpent, goingOn, run-split, later, run-later}
+use Rattle.legs.proofs.Runs.{Avoids, isSpent, goingOn, run-split, later, run-later}
 
 -- ---- the engine and the ledger
 

@@ -33,8 +33,8 @@ use Rattle.runs.specs.Run.Turn.{over, last, next}
 use Rattle.runs.specs.Engine.{Engine, turnOf, engineTurn, engineDone, engineRun}
 use Rattle.runs.specs.Steps.{Transition, firstSteps}
 use Rattle.engine.specs.Call.{refused, runOf}
-use Rattle.engine.proofs.Runs.{run-done, run-spent, run-turn, by-run, run-counts}
-use Rattle.engine.proofs.Fits.{file-listed}
+use Rattle.legs.proofs.Runs.{run-done, run-spent, run-turn, by-run, run-counts}
+use Rattle.legs.proofs.Fits.{file-listed}
 
 -- ---- any machine that does not look at the steps made
 

@@ -42,7 +42,7 @@ use Rattle.runs.specs.Engine.{Engine, engineTurn, engineFrom, engineRun}
 use Rattle.runs.specs.Ledger.{Entry, isStored, withStore, Ledger, exactTrap, keepExact, exactTurn, ledgerDone, exactRun, ledgerRun}
 use Rattle.runs.specs.Ledger.Beyond.{stops}
 use Rattle.runs.specs.Exact.{holdsClear, wordIn, storedAt}
-use Rattle.engine.proofs.Runs.{Keeps, run-keeps}
+use Rattle.legs.proofs.Runs.{Keeps, run-keeps}
 use Rattle.engine.proofs.Agree.{cleared, clear, Follows, turn-follows}
 use Rattle.machine.proofs.Order.{controlled-frame}
 use Rattle.machine.proofs.Words.{put-long}

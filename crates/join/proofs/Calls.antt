@@ -29,8 +29,8 @@ use Rattle.runs.specs.Wraps.{isBarred, holdsBarred}
 use Rattle.runs.specs.Holds.{holds}
 use Rattle.runs.proofs.Holds.{holds-append, holds-map}
 use Rattle.engine.specs.Call.{refused, runOf}
-use Rattle.engine.proofs.Fits.{Fit, run-fits}
-use Rattle.engine.proofs.Runs.{thenOn}
+use Rattle.legs.proofs.Fits.{Fit, run-fits}
+use Rattle.legs.proofs.Runs.{thenOn}
 use Rattle.join.specs.Join.{movedOperation, joined, joinedFile, Joinable}
 use Rattle.join.specs.Both.{movedResult, runsBoth}
 use Rattle.join.proofs.Moved.{by-moved}

@@ -21,7 +21,7 @@ use Rattle.program.proofs.Places.{count-range, operations-length, operation-nth
 use Rattle.program.proofs.Accepted.{accepted-blocks, program-length, program-placed, write-fits}
 use Rattle.program.proofs.RoundTrip.{write-then-load}
 use Rattle.machine.specs.Step.{operationAt}
-use Rattle.engine.proofs.Fits.{file-listed}
+use Rattle.legs.proofs.Fits.{file-listed}
 use Rattle.join.specs.Join.{joined, encoded, joinedBytes, joinedFile, Joinable}
 use Rattle.join.proofs.Bytes.{encoded-length, encoded-at}
 use Rattle.join.proofs.Whole.{Accepted, joined-accepted}

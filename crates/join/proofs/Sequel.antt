@@ -18,8 +18,8 @@ use Rattle.machine.proofs.Ends.{done-loops, done-repeat}
 use Rattle.runs.specs.Run.{isLeft, isDone, Turn, Result}
 use Rattle.runs.specs.Run.Turn.{over, last, next}
 use Rattle.runs.specs.Engine.{Engine, turnOf, engineTurn, engineDone, engineFrom, engineRun}
-use Rattle.engine.proofs.Fits.{Fit, at-operation, turn-fits}
-use Rattle.engine.proofs.Runs.{Keeps, Avoids, turnTo, run-maps, thenOn, run-then, later}
+use Rattle.legs.proofs.Fits.{Fit, at-operation, turn-fits}
+use Rattle.legs.proofs.Runs.{Keeps, Avoids, turnTo, run-maps, thenOn, run-then, later}
 use Rattle.engine.proofs.Split.{engine-ends, engine-later}
 use Rattle.join.specs.Join.{joined}
 use Rattle.join.specs.Both.{movedStarts, movedEngine, movedResult}

@@ -26,7 +26,7 @@ ghost use Prim.Native.Nat.{_+_, _≤_};
 ghost use lib.ListN.{take};
 ghost use Rattle.text.specs.Buffer.{Appended, BeginsWith};
 ghost use Rattle.text.specs.Text.{beforeZero, checkOf};
-ghost use Rattle.report.specs.Line.{lineEnd, endingText, runFields, runLine, allRegisters, longRunLine, tallySums, ofNoRefusal, tallyLine};
+ghost use Rattle.report.specs.Line.{lineEnd, endingText, runFields, runLine, allRegisters, longRunLine, unended, decodedRunLine, tallySums, ofNoRefusal, tallyLine};
 ghost use Rattle.report.specs.Line.{stepText, stepLine, verbText, unlessRefused, filledLine, combinedFields, combinedLine, noticeText, noticeLine, servedText, serviceText, bagFields};
 
 // The length of a name that zeros fill up.
@@ -90,10 +90,10 @@ fn check_registers(w: [u16; 14]) -> u32
     check_words(first, &zeros)
 }
 
-// The line of a run in the long form: the fields of a run, the set in use, the check of all registers, the task counts. Every step is of an operation in no
-// task.
-pub fn long_run_line(out: &mut [u8; LINE], outcome: Outcome, memory: &[u16]) -> usize
-    ensures { λ r. ⌜ BeginsWith (longRunLine outcome (now (memory .entry))) (now (out .entry)) r (now (out .exit)) ⌝ }
+// The line of a run in the long form, but its end: the fields of a run, the set in use, the check of all registers, the task counts. Every step is of an
+// operation in no task.
+fn append_long_run(out: &mut [u8; LINE], outcome: Outcome, memory: &[u16]) -> usize
+    ensures { λ r. ⌜ Appended 0 618 (unended (longRunLine outcome (now (memory .entry)))) (now (out .entry)) r (now (out .exit)) ⌝ }
 {
     let state = outcome.state;
     let core = state.core;
@@ -104,8 +104,30 @@ pub fn long_run_line(out: &mut [u8; LINE], outcome: Outcome, memory: &[u16]) -> 
     let past_fields = append_run(out, outcome, memory);
     let past_set = append(out, past_fields, b" 0");
     let past_registers = append_long_field(out, past_set, check);
-    let past_tasks = append_number_fields(out, past_registers, &counts);
-    append_end(out, past_tasks)
+    append_number_fields(out, past_registers, &counts)
+}
+
+// The line of a run in the long form.
+pub fn long_run_line(out: &mut [u8; LINE], outcome: Outcome, memory: &[u16]) -> usize
+    ensures { λ r. ⌜ BeginsWith (longRunLine outcome (now (memory .entry))) (now (out .entry)) r (now (out .exit)) ⌝ }
+{
+    let past_fields = append_long_run(out, outcome, memory);
+    append_end(out, past_fields)
+}
+
+// The line of a run over decoded operations: that of a run in the long form, then the check of the lent slice's words.
+pub fn decoded_run_line(
+    out: &mut [u8; LINE],
+    outcome: Outcome,
+    memory: &[u16],
+    slice: &[u16],
+) -> usize
+    ensures { λ r. ⌜ BeginsWith (decodedRunLine outcome (now (memory .entry)) (now (slice .entry))) (now (out .entry)) r (now (out .exit)) ⌝ }
+{
+    let check = check_words(0, slice);
+    let past_fields = append_long_run(out, outcome, memory);
+    let past_check = append_long_field(out, past_fields, check);
+    append_end(out, past_check)
 }
 
 // Steps, A, B and SR.

@@ -18,7 +18,7 @@ use Rattle.endings.specs.declared.ending.Ending.the-variants.{Done, Spent, Trap
 use Rattle.engine.specs.declared.outcome.Outcome.{Outcome}
 use Rattle.combine.specs.declared.call.Combined.the-variants.{Sum, Refused as SumRefused}
 use Rattle.text.specs.Text.{numberText, signedText, wordText}
-use Rattle.report.specs.Line.{slotFields, sumFields, controlFields, stateFields, endingText, runFields, runLine, longRunLine, tallySums, tallyLine}
+use Rattle.report.specs.Line.{slotFields, sumFields, controlFields, stateFields, endingText, runFields, runLine, longRunLine, decodedRunLine, tallySums, tallyLine}
 use Rattle.report.specs.Line.{stepText, stepLine, filledLine, combinedFields, combinedLine, noticeLine, serviceText, bagFields}
 use Rattle.report.specs.declared.notice.Notice.the-variants.{Short, TooLarge, Unknown}
 use Rattle.report.specs.declared.verb.Verb.the-variants.{Loaded, Wrote, Joined}
@@ -102,6 +102,14 @@ run-long : longRunLine (ended-so Done) words
     ++ (32 ∷ 48 ∷ 32 ∷ 49 ∷ 54 ∷ 55 ∷ 56 ∷ 52 ∷ 53 ∷ 56 ∷ 49 ∷ 51 ∷ 52 ∷ 32 ∷ 48 ∷ 32 ∷ 48 ∷ 32 ∷ 48 ∷ 32 ∷ 48 ∷ 32 ∷ 48 ∷ 32 ∷ 48 ∷ 32 ∷ 48 ∷ 32 ∷ 48 ∷ 32 ∷ 49 ∷ 50 ∷ 10 ∷ [])
 unfolding longRunLine runFields endingText nameOf decimalOf stateFields sumFields controlFields slotFields stateStatus statusOf numberText signedText wordText
 run-long = refl
+
+-- over decoded operations: the long form's line, then the check of the slice's words 3 and 4, refused for its slice: `refused8 12 .. 0 1678458134 0 0 0 0 0 0 0 0 12 97\n`
+run-decoded : decodedRunLine (ended-so (Refused 8)) words (3 ∷ 4 ∷ [])
+    ≡ (114 ∷ 101 ∷ 102 ∷ 117 ∷ 115 ∷ 101 ∷ 100 ∷ 56 ∷ 32 ∷ 49 ∷ 50 ∷ [])
+    ++ standing-fields
+    ++ (32 ∷ 48 ∷ 32 ∷ 49 ∷ 54 ∷ 55 ∷ 56 ∷ 52 ∷ 53 ∷ 56 ∷ 49 ∷ 51 ∷ 52 ∷ 32 ∷ 48 ∷ 32 ∷ 48 ∷ 32 ∷ 48 ∷ 32 ∷ 48 ∷ 32 ∷ 48 ∷ 32 ∷ 48 ∷ 32 ∷ 48 ∷ 32 ∷ 48 ∷ 32 ∷ 49 ∷ 50 ∷ 32 ∷ 57 ∷ 55 ∷ 10 ∷ [])
+unfolding decodedRunLine longRunLine runFields endingText nameOf decimalOf stateFields sumFields controlFields slotFields stateStatus statusOf numberText signedText wordText
+run-decoded = refl
 
 -- ---- tally
 

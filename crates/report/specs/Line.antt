@@ -1,9 +1,9 @@
 -- The line that is printed for a case: its fields in their order, parted by one space.
-use Prim.Native.Nat.{ℕ}
+use Prim.Native.Nat.{ℕ, _-_}
 use mathlib.Core.Bool.{cond}
 use mathlib.Core.List.{List, [], _∷_, _++_}
 use lib.Dec.{eqb}
-use lib.ListN.{getD, replicate}
+use lib.ListN.{length, getD, take, replicate}
 use Rattle.accumulator.specs.declared.limit.Accumulator.{Accumulator}
 use Rattle.program.specs.Answer.{answerNumber, answerBytes}
 use Rattle.program.specs.declared.answer.Answer.{Answer}
@@ -89,6 +89,14 @@ longRunLine r memory =
     ++ checkField (allRegisters (r .state .core .w))
     ++ fieldsOf numberText (taskCounts (r .steps))
     ++ lineEnd
+
+-- a line without its end
+abbrev pub unended : List ℕ → List ℕ
+unended line = take (length line - 1) line
+
+-- a run over decoded operations: the line of a run in the long form, then the check of the slice's words
+unfoldable pub decodedRunLine : Outcome → List ℕ → List ℕ → List ℕ
+decodedRunLine r memory slice = unended (longRunLine r memory) ++ checkField slice ++ lineEnd
 
 -- steps, A, B and SR
 unfoldable pub tallySums : Outcome → List ℕ

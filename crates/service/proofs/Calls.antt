@@ -21,7 +21,7 @@ use Rattle.state.specs.Typed.{AreWords, Typed}
 use Rattle.service.specs.Service.{Bag, engineOf, engineBefore, firstBefore, Served, engineServed, engineService, engineAfter, callService}
 use Rattle.service.specs.Exact.{Sound, Every, Serves}
 use Rattle.machine.proofs.Stands.{stands-accepted}
-use Rattle.engine.proofs.Fits.{Fit, file-listed}
+use Rattle.legs.proofs.Fits.{Fit, file-listed}
 use Rattle.service.proofs.Fits.{by-bags, accepted-begins, FitServed, service-fits}
 use Rattle.service.proofs.Services.{service-stays, exact-service}
 

@@ -17,7 +17,7 @@ use Rattle.state.specs.declared.state.State.{State}
 use Rattle.machine.specs.Step.{operationAt}
 use Rattle.machine.proofs.Stands.{Stands, accepted-stands, restart-stands}
 use Rattle.runs.specs.Engine.{Engine}
-use Rattle.engine.proofs.Fits.{Fit, run-fits}
+use Rattle.legs.proofs.Fits.{Fit, run-fits}
 use Rattle.service.specs.Service.{Bag, engineBefore, firstBefore, Served, engineServed, engineService}
 use Rattle.service.specs.Exact.{Sound, Every}
 

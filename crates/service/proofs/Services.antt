@@ -21,7 +21,7 @@ use Rattle.runs.specs.Ledger.{Ledger, ledgerRun}
 use Rattle.runs.specs.Exact.{holdsClear, FlagsClear, NeverLeft, ExactSums}
 use Rattle.engine.proofs.Agree.{SetIn, run-stays}
 use Rattle.engine.proofs.Sums.{exact-sums}
-use Rattle.engine.proofs.Runs.{isSpent, later}
+use Rattle.legs.proofs.Runs.{isSpent, later}
 use Rattle.engine.proofs.Split.{engine-split}
 use Rattle.service.specs.Service.{Bag, onward, engineBefore, Served, engineServed, engineService, engineAfter, ledgerServed, ledgerService}
 use Rattle.service.specs.Exact.{Sound, Every, ExactService, Staying}

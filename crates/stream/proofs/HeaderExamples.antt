@@ -9,7 +9,7 @@ use lib.ListN.{replicate}
 use Rattle.integers.specs.Bits.{signedOf}
 use Rattle.integers.specs.Range.{minus}
 use Rattle.combine.specs.declared.board.Board.{Board}
-use Rattle.stream.specs.Header.{fileSize, memoryWords, budgetIn, secondSize, outputRoom, whatIn, settingsIn, stateIn, registersIn, loopsIn}
+use Rattle.stream.specs.Header.{fileSize, memoryWords, budgetIn, secondSize, lentWords, outputRoom, whatIn, settingsIn, stateIn, registersIn, loopsIn}
 use Rattle.stream.specs.Memory.{memoryIn}
 use Rattle.stream.specs.Boards.{boardIn, boardsIn}
 
@@ -22,15 +22,16 @@ valuesFrom f i (suc n) = f i ∷ valuesFrom f (suc i) n
 abbrev counted : List ℕ
 counted = valuesFrom (λ (i : ℕ). i % 251) 0 320
 
--- F at 0, M at 4, the budget at 8, G at 260, R at 268; what is asked for at 111
+-- F at 0, M at 4, the budget at 8, G at 260, L at 264, R at 268; what is asked for at 111
 sizes :
     (fileSize counted ≡ 0x03020100)
     × (memoryWords counted ≡ 0x07060504)
     × (budgetIn counted ≡ 0x0b0a0908)
     × (secondSize counted ≡ 0x0c0b0a09)
+    × (lentWords counted ≡ 0x100f0e0d)
     × (outputRoom counted ≡ 0x14131211)
     × (whatIn counted ≡ 111)
-sizes = (refl, refl, refl, refl, refl, refl)
+sizes = (refl, refl, refl, refl, refl, refl, refl)
 
 -- 12 words of X, 14 trap word, 16 X's register, 18 S, 20 E, 22 Y's, 24, 26, 28 the bit-reversed register, 30 N
 settings :

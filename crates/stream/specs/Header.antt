@@ -54,6 +54,10 @@ budgetIn head = fourBytesAt head 8
 abbrev pub secondSize : List ℕ → ℕ
 secondSize head = fourBytesAt head 260
 
+-- at 264, 4 bytes: L, the words of a lent slice for decoded operations
+abbrev pub lentWords : List ℕ → ℕ
+lentWords head = fourBytesAt head 264
+
 -- at 268, 4 bytes: R, the bytes of lent output
 abbrev pub outputRoom : List ℕ → ℕ
 outputRoom head = fourBytesAt head 268

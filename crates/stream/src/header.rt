@@ -10,7 +10,7 @@ use state::state::State;
 ghost use mathlib.Core.Path.{_≡_};
 ghost use Prim.Native.Nat.{_+_, _*_, _<_};
 ghost use Rattle.integers.specs.Bits.{signedOf};
-ghost use Rattle.stream.specs.Header.{twoBytesOf, twoBytesAt, fourBytesOf, fourBytesAt, eightBytesOf, eightBytesAt, fileSize, memoryWords, budgetIn, secondSize, outputRoom, whatIn};
+ghost use Rattle.stream.specs.Header.{twoBytesOf, twoBytesAt, fourBytesOf, fourBytesAt, eightBytesOf, eightBytesAt, fileSize, memoryWords, budgetIn, secondSize, lentWords, outputRoom, whatIn};
 ghost use Rattle.stream.specs.Header.{circularAt, settingsIn, registersIn, loopsIn, flagIn, modeWordIn, stateIn};
 
 // 16 bits.
@@ -118,6 +118,13 @@ pub fn second_size(head: [u8; 320]) -> usize
     ensures { λ r. ⌜ r ≡ secondSize head ⌝ }
 {
     four_bytes_at(head, 260) as usize
+}
+
+// The words of a lent slice for decoded operations.
+pub fn lent(head: [u8; 320]) -> usize
+    ensures { λ r. ⌜ r ≡ lentWords head ⌝ }
+{
+    four_bytes_at(head, 264) as usize
 }
 
 // The bytes of lent output of a case in the long form.

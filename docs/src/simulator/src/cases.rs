@@ -195,6 +195,11 @@ pub fn check(numbers: impl Iterator<Item = u32>) -> u32 {
     numbers.fold(0, |h: u32, x| h.wrapping_mul(31).wrapping_add(x))
 }
 
+/// The check of words.
+pub fn word_check(words: &[u16]) -> u32 {
+    check(words.iter().map(|&word| u32::from(word)))
+}
+
 /// The line for a case, without its line feed.
 pub fn line(case: &Case) -> String {
     match case.what {
@@ -240,7 +245,7 @@ pub fn state_fields(state: &State, memory: &[u16]) -> String {
     for word in w {
         let _ = write!(line, " {word:04X}");
     }
-    let _ = write!(line, " {}", check(memory.iter().map(|&x| u32::from(x))));
+    let _ = write!(line, " {}", word_check(memory));
     line
 }
 

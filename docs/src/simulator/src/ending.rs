@@ -25,7 +25,8 @@ pub enum Ending {
     Done,
     Spent,
     Trap(Trap),
-    /// The number of the refusal; a run's is 1 to 7 of the table of "Program file".
+    /// The number of the refusal: a run's is 1 to 7 of the table of "Program file", a
+    /// decoded run's 1 to 8.
     Refused(u8),
 }
 

@@ -16,21 +16,43 @@ pub struct Outcome {
     pub steps: u32,
 }
 
-/// Refusals 1 to 7 of a run, in their order; the operations otherwise.
-pub fn accept(
+impl Outcome {
+    /// A refused call: the state as given and 0 steps.
+    pub fn refused(number: u8, state: &State) -> Outcome {
+        Outcome {
+            ending: Ending::Refused(number),
+            state: *state,
+            steps: 0,
+        }
+    }
+}
+
+/// Refusals 1 to 7 of a run, in their order; the operations as bytes and decoded
+/// otherwise.
+pub fn accept_file(
     file: &[u8],
     settings: &Settings,
     state: &State,
     words: usize,
-) -> Result<Vec<Operation>, u8> {
-    let (_, operations) = check_file(file)?;
+) -> Result<(Vec<u8>, Vec<Operation>), u8> {
+    let (bytes, operations) = check_file(file)?;
     if !settings.are_accepted(words) {
         return Err(6);
     }
     if !state.is_accepted(&operations) {
         return Err(7);
     }
-    Ok(operations)
+    Ok((bytes, operations))
+}
+
+/// The same, the operations alone.
+pub fn accept(
+    file: &[u8],
+    settings: &Settings,
+    state: &State,
+    words: usize,
+) -> Result<Vec<Operation>, u8> {
+    accept_file(file, settings, state, words).map(|(_, operations)| operations)
 }
 
 /// Run a program file. A refused call changes nothing.
@@ -42,11 +64,7 @@ pub fn run(
     budget: u32,
 ) -> Outcome {
     match accept(file, settings, state, memory.len()) {
-        Err(number) => Outcome {
-            ending: Ending::Refused(number),
-            state: *state,
-            steps: 0,
-        },
+        Err(number) => Outcome::refused(number, state),
         Ok(operations) => run_operations(&operations, settings, state, memory, budget),
     }
 }

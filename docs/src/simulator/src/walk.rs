@@ -20,7 +20,7 @@ pub fn walk(case: &Case, mut visit: impl FnMut(&Operation, &State, &State)) -> O
     };
     let operations = match accept(&case.file, settings, state, memory.len()) {
         Ok(operations) => operations,
-        Err(number) => return outcome(Ending::Refused(number), *state, 0),
+        Err(number) => return Outcome::refused(number, state),
     };
     let mut machine = Machine {
         state: *state,

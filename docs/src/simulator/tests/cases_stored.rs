@@ -1,5 +1,5 @@
-//! The stream of runs, loads, writes, joins and combined boards stored in crates/cases:
-//! what its parts hold, and the lines for it.
+//! The stream of runs, loads, writes, joins, combined boards and decoded runs stored in
+//! crates/cases: what its parts hold, and the lines for it.
 
 mod common;
 use common::*;
@@ -24,7 +24,7 @@ fn the_stored_stream_is_what_the_bin_writes() {
     let stored = stored_case_files("stdin");
     assert!(stored == stream());
     println!("{} bytes", stored.len());
-    assert!(stored.len() <= 6_750_000);
+    assert!(stored.len() <= 8_265_000);
 }
 
 #[test]
@@ -80,6 +80,12 @@ fn the_parts_have_these_lengths() {
         ("next_addresses", 130),
         ("rounds", 33),
         ("block_ends", 49),
+        ("slices", 80),
+        ("decoded_kinds", 144),
+        ("decoded_modes", 144),
+        ("decoded_endings", 239),
+        ("decoded_refused", 387),
+        ("random_decoded", 200),
     ];
     assert_eq!(lengths, said);
 }
@@ -104,14 +110,31 @@ fn the_short_parts_stand_first_as_they_are() {
 #[test]
 fn the_joined_parts_stand_next_as_they_are() {
     assert_eq!(check_up_to("stdin", 6_011_228), 3_790_703_533);
-    assert_eq!(check_up_to("stdout", 704_359), 3_078_813_323);
+    assert_eq!(check_up_to("stdout", 704_538), 1_958_724_043);
 }
 
 /// So do the parts about combined boards, up to `random_boards`.
 #[test]
 fn the_parts_about_boards_stand_next_as_they_are() {
     assert_eq!(check_up_to("stdin", 6_448_358), 1_122_299_604);
-    assert_eq!(check_up_to("stdout", 728_676), 1_114_626_151);
+    assert_eq!(check_up_to("stdout", 728_855), 657_511_719);
+}
+
+/// So do the parts about the bit-reversed register, up to `block_ends`.
+#[test]
+fn the_reversed_parts_stand_next_as_they_are() {
+    assert_eq!(check_up_to("stdin", 6_746_610), 1_276_727_707);
+    assert_eq!(check_up_to("stdout", 758_489), 3_450_564_272);
+}
+
+/// The parts after these are decoded runs alone.
+#[test]
+fn the_last_parts_are_decoded_runs() {
+    let parts = parts().into_iter().skip(22);
+    let is_decoded = |form: &Form| matches!(form, Form::Long(long) if long.call == Call::Decoded);
+    let all: Vec<Form> = parts.flat_map(|(_, forms)| forms).collect();
+    assert_eq!(all.len(), 1_194);
+    assert!(all.iter().all(is_decoded));
 }
 
 // ---- what the stream holds
@@ -175,6 +198,10 @@ fn answers() -> BTreeMap<String, usize> {
     answers.insert("combine short".to_string(), 5);
     answers.extend([7, 13, 14].map(|number| (format!("combine refused{number}"), 20)));
     answers.insert("call unknown".to_string(), 6);
+    answers.insert("decoded done".to_string(), 400);
+    answers.insert("decoded spent".to_string(), 150);
+    answers.extend((1..=7).map(|number| (format!("decoded trap{number}"), 5)));
+    answers.extend((1..=8).map(|number| (format!("decoded refused{number}"), 15)));
     answers
 }
 

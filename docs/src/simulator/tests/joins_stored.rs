@@ -381,6 +381,11 @@ fn both_forms_of_a_run_agree() {
 
 // ---- calls that are not here
 
+/// The run over decoded operations with nothing to read over.
+fn twin_of(run: &Case, words: usize) -> Long {
+    simulator::generate::decoded::decoded_case(run.clone(), words)
+}
+
 #[test]
 fn unknown_calls_have_something_to_read_over() {
     let forms = part("unknown");
@@ -393,12 +398,17 @@ fn unknown_calls_have_something_to_read_over() {
         calls.push(long_bytes(long)[111]);
         let (first, second) = (&long.start.file, &long.second);
         assert!(!first.is_empty() && !second.is_empty() && !long.start.memory.is_empty());
-        // 22 is here: 65,536 and -5, of which the second's SA is set.
+        // 22 is here: 65,536 and -5, of which the second's SA is set. So is 21: the run
+        // and its three operations in a slice of 64 words.
         let due = match long.call {
-            Call::Combine => "combined 65531 0 1",
-            _ => "unknown",
+            Call::Combine => "combined 65531 0 1".to_string(),
+            Call::Decoded => line(&Form::Long(twin_of(run, 64))),
+            _ => "unknown".to_string(),
         };
         assert_eq!(lines[0], due);
+        if long.call == Call::Decoded {
+            assert!(lines[0].starts_with(&lines[1]) && lines[0].len() > lines[1].len());
+        }
         assert_eq!(lines[1], line(&Form::Short(run.clone())));
         assert!(lines[1].starts_with("done "));
     }
@@ -419,6 +429,7 @@ fn the_random_forms_are_of_every_kind() {
             Form::Long(long) => match long.call {
                 Call::Run => "run",
                 Call::Join => "join",
+                Call::Decoded => "decoded",
                 Call::Combine => "combine",
                 Call::Unknown(_) => "unknown",
             },

@@ -27,7 +27,7 @@ fn long(call: Call) -> Long {
         call,
         start: start(),
         second: file_of(&[lit(6, 7)]),
-        words: 0,
+        words: 50,
         room: 600,
     }
 }
@@ -41,6 +41,17 @@ const REGISTERS_CHECK: u64 = 454_076_507;
 
 fn long_run_line() -> String {
     format!("{SHORT_LINE} 0 {REGISTERS_CHECK} 0 0 0 0 0 0 0 0 3")
+}
+
+/// The words of the example's operations, then 48 and 49 as they came.
+fn decoded_line() -> String {
+    let words = [
+        [16, 4, 3, 0, 0, 0, 0, 0, 0, 0, 0, 3, 0, 0, 0, 0],
+        [16, 5, 14, 15, 15, 15, 0, 0, 0, 0, 0, 0xFFFE, 0, 0, 0, 0],
+        [2, 0, 4, 5, 0, 0, 0, 0, 0, 0, 0, 0x54, 0, 0, 0, 0],
+    ];
+    let slice = check_of(words.concat().into_iter().chain([48, 49]));
+    format!("{} {slice}", long_run_line())
 }
 
 fn check_of(bytes: impl Iterator<Item = u64>) -> u64 {
@@ -71,8 +82,8 @@ fn the_header_is_laid_out_as_the_page_says() {
 
 #[test]
 fn every_call_has_its_number() {
-    let calls = [(Call::Run, 16), (Call::Join, 17)];
-    let others = [18, 19, 20, 21, 23, 99, 255].map(|what| (Call::Unknown(what), what));
+    let calls = [(Call::Run, 16), (Call::Join, 17), (Call::Decoded, 21)];
+    let others = [18, 19, 20, 23, 99, 255].map(|what| (Call::Unknown(what), what));
     for (call, what) in calls.into_iter().chain(others) {
         let bytes = long_bytes(&long(call));
         assert_eq!(bytes[111], what);
@@ -132,7 +143,7 @@ fn a_long_run_that_is_refused() {
 #[test]
 fn what_has_not_landed_is_not_looked_at() {
     let mut random = Random::new(69);
-    for call in [Call::Run, Call::Join, Call::Unknown(18)] {
+    for call in [Call::Run, Call::Join, Call::Decoded, Call::Unknown(18)] {
         let bytes = long_bytes(&long(call));
         let due = printed(&bytes);
         for _ in 0..200 {
@@ -142,6 +153,38 @@ fn what_has_not_landed_is_not_looked_at() {
             assert_eq!(printed(&other), due);
         }
     }
+}
+
+/// A slice of 50, 48 and 47 words, and of 300 for a run that is refused.
+#[test]
+fn decoded_lines() {
+    let mut case = long(Call::Decoded);
+    assert_eq!(long_line(&case), decoded_line());
+    case.words = 48;
+    assert!(long_line(&case).starts_with(&format!("{} ", long_run_line())));
+    case.words = 47;
+    let pattern = |words: u64| check_of((0..words).map(|i| i % 251));
+    let as_it_came = |number: u8, words: u64| {
+        let zeros = "0000 ".repeat(14);
+        let start = format!("refused{number} 0 0 0 0000 0 0 0020 0 0:0 0:0 0:0 0:0 {zeros}1026");
+        format!("{start} 0 0 0 0 0 0 0 0 0 0 0 {}", pattern(words))
+    };
+    assert_eq!(long_line(&case), as_it_came(8, 47));
+    case.words = 0;
+    assert_eq!(long_line(&case), as_it_came(8, 0));
+    case.start.settings.trap_word = 1;
+    assert_eq!(long_line(&case), as_it_came(6, 0));
+    case.words = 300;
+    assert_eq!(long_line(&case), as_it_came(6, 300));
+}
+
+/// The second file and the output are read over and not judged.
+#[test]
+fn a_decoded_run_has_no_second_file() {
+    let mut case = long(Call::Decoded);
+    (case.second, case.room) = (vec![9; 77], u32::MAX);
+    assert_eq!(long_line(&case), decoded_line());
+    assert_eq!(printed(&long_bytes(&case)), format!("{}\n", decoded_line()));
 }
 
 /// The joined file of four operations, then the lent pattern.
@@ -190,7 +233,7 @@ fn join_looks_at_files_and_room_alone() {
 #[test]
 fn unknown_calls_are_read_over() {
     let run = bytes_of(&Form::Short(start()));
-    for what in (18..=255).filter(|&what| what != 22) {
+    for what in (18..=255).filter(|&what| what != 21 && what != 22) {
         let mut stream = long_bytes(&long(Call::Unknown(what)));
         stream.extend(&run);
         assert_eq!(
@@ -206,15 +249,17 @@ fn both_forms_in_one_stream() {
     let forms = [
         Form::Short(start()),
         Form::Long(long(Call::Run)),
-        Form::Long(long(Call::Unknown(21))),
+        Form::Long(long(Call::Unknown(20))),
         Form::Short(start()),
+        Form::Long(long(Call::Decoded)),
         Form::Long(long(Call::Join)),
     ];
     let stream: Vec<u8> = forms.iter().flat_map(bytes_of).collect();
     assert_eq!(forms_of(&stream), forms);
     let join = long_line(&long(Call::Join));
     let run = long_run_line();
-    let due = format!("{SHORT_LINE}\n{run}\nunknown\n{SHORT_LINE}\n{join}\n");
+    let decoded = decoded_line();
+    let due = format!("{SHORT_LINE}\n{run}\nunknown\n{SHORT_LINE}\n{decoded}\n{join}\n");
     assert_eq!(printed(&stream), due);
 }
 
@@ -222,7 +267,7 @@ fn both_forms_in_one_stream() {
 
 #[test]
 fn a_long_case_that_breaks_off_prints_short() {
-    for call in [Call::Run, Call::Join, Call::Unknown(19)] {
+    for call in [Call::Run, Call::Join, Call::Decoded, Call::Unknown(19)] {
         let whole = long_bytes(&long(call));
         let line = printed(&whole);
         // In the header; in F, G and M and between them.
@@ -273,7 +318,7 @@ fn sizes_past_the_limits_print_toolarge() {
     assert_eq!(printed(&stream), format!("{}\ntoolarge\n", long_run_line()));
 }
 
-/// R is judged for a join alone, L for none yet; the budget has 32 bits.
+/// R is judged for a join alone, L for a decoded run alone; the budget has 32 bits.
 #[test]
 fn sizes_that_are_not_used() {
     assert_eq!(printed(&header(17, &[(R, 65_537)])), "toolarge\n");
@@ -281,9 +326,13 @@ fn sizes_that_are_not_used() {
     assert!(printed(&header(17, &[(R, 0), (L, u32::MAX)])).starts_with("refused1 0 "));
     let large = [(R, u32::MAX), (L, u32::MAX), (8, u32::MAX)];
     assert!(printed(&header(16, &large)).starts_with("refused1 0 "));
-    for what in [18, 19, 20, 21, 255] {
+    for what in [18, 19, 20, 255] {
         assert_eq!(printed(&header(what, &large)), "unknown\n");
     }
+    assert_eq!(printed(&header(21, &[(L, 65_537)])), "toolarge\n");
+    assert_eq!(printed(&header(21, &[(L, u32::MAX)])), "toolarge\n");
+    let most = [(R, u32::MAX), (L, 65_536), (8, u32::MAX)];
+    assert!(printed(&header(21, &most)).starts_with("refused1 0 "));
 }
 
 #[test]
@@ -298,7 +347,7 @@ fn sizes_at_the_limits_are_carried_out() {
 #[test]
 fn any_bytes_are_a_stream() {
     let mut random = Random::new(70);
-    for call in [Call::Run, Call::Join, Call::Unknown(21)] {
+    for call in [Call::Run, Call::Join, Call::Decoded, Call::Unknown(20)] {
         let base = long_bytes(&long(call));
         for _ in 0..5_000 {
             let mut stream = altered(&base, &mut random);

@@ -3,9 +3,11 @@
 mod common;
 use common::*;
 
-use simulator::cases::{bytes_of, next_case, Case};
+use simulator::cases::{bytes_of, line, next_case, Case};
 use simulator::encode::encode;
-use simulator::generate::speed::{by_loops, by_repeat, by_reversal};
+use simulator::form::{self, forms_of, Form};
+use simulator::generate::speed::{by_loops, by_repeat, by_reversal, case_of, NAMES};
+use simulator::long::{long_line, Call};
 use simulator::walk::walk;
 use simulator::Ending;
 
@@ -45,6 +47,26 @@ fn the_stored_cases_are_what_the_bin_writes() {
     assert_eq!(stored_speed("repeat"), bytes_of(&by_repeat()));
     assert_eq!(stored_speed("loop"), bytes_of(&by_loops()));
     assert_eq!(stored_speed("reversed"), bytes_of(&by_reversal()));
+    for name in NAMES {
+        assert_eq!(stored_speed(name), form::bytes_of(&case_of(name).unwrap()));
+    }
+    let others = ["", "loops", "-decoded", "loop-decoded-decoded"];
+    assert!(others.iter().all(|name| case_of(name).is_none()));
+}
+
+/// Over decoded operations, 4 or 6 of them, each run is the same.
+#[test]
+fn the_decoded_runs_are_the_same() {
+    for (name, count) in [("repeat", 4), ("loop", 6), ("reversed", 4)] {
+        let stored_twin = forms_of(&stored_speed(&format!("{name}-decoded")));
+        let [Form::Long(twin)] = &stored_twin[..] else {
+            panic!("not one long case");
+        };
+        assert_eq!((twin.call, twin.words), (Call::Decoded, 16 * count));
+        assert_eq!(twin.start, stored(name));
+        let run = line(&twin.start);
+        assert!(long_line(twin).starts_with(&format!("{run} 0 ")));
+    }
 }
 
 #[test]

@@ -7,6 +7,7 @@ use simulator::generate::{generate, long_mix, short_mix};
 
 const SEED: u64 = 1;
 const CASES: usize = 2_000;
+const LONG_CASES: usize = 2_500;
 
 #[test]
 fn generate_is_deterministic() {
@@ -58,19 +59,21 @@ fn every_ending_refusal_and_kind_is_covered() {
     assert!(coverage.depths.iter().all(|&seen| seen >= 200));
 }
 
-/// The mix of joins, runs of joined files and combined boards, printed as it says.
+/// The mix of joins, runs of joined files, decoded runs and combined boards, printed as it
+/// says.
 #[test]
 fn every_answer_of_the_long_mix_is_covered() {
-    let (stream, lines) = generate(long_mix, SEED, CASES).unwrap();
+    let (stream, lines) = generate(long_mix, SEED, LONG_CASES).unwrap();
     assert_eq!(printed(&stream), lines);
     let coverage = coverage(&stream);
     println!("{:#?}, {} bytes", coverage.endings, stream.len());
-    assert_eq!(coverage.cases, CASES);
+    assert_eq!(coverage.cases, LONG_CASES);
     let mut names: Vec<String> = vec!["join joined".into(), "call unknown".into()];
     names.extend([1, 2, 3, 4, 5, 8, 9].map(|n| format!("join refused{n}")));
     names.extend(["combine combined".into(), "combine short".into()]);
     names.extend([7, 13, 14].map(|n| format!("combine refused{n}")));
-    for form in ["run", "long"] {
+    names.extend((1..=8).map(|n| format!("decoded refused{n}")));
+    for form in ["run", "long", "decoded"] {
         names.extend(["done", "spent"].map(|ending| format!("{form} {ending}")));
         names.extend((1..=7).map(|n| format!("{form} trap{n}")));
         names.extend([6, 7].map(|n| format!("{form} refused{n}")));

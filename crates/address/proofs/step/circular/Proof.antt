@@ -4,7 +4,7 @@ use borrow.Author.Needs.{needs}
 use lib.IntN.{ℤ, pos, _+ℤ_}
 use mir.Facts.{toZ-ofZ}
 use Rattle.integers.proofs.Fitting.{gave}
-use Rattle.address.proofs.Steps.{Known, sum-small, less-bytes-fits, more-bytes-fits, above, below, between, elsewhere}
+use Rattle.address.proofs.Steps.{Known, sum-small, to-fits, above, below, between, elsewhere}
 use Rattle.address.proofs.step.circular.Statement.{statement}
 use Rattle.address.proofs.step.circular.Tie as tie
 use Rattle.address.proofs.step.circular.Reads as reads
@@ -31,7 +31,7 @@ abbrev Unreduced : Type 0
 Unreduced = lts.After-unreduced claims reads.Pre reads.Post
 
 abbrev start : Unreduced → lts.Start claims reads.Pre reads.Post
-start c = c .before .before .before .before
+start c = c .before .before .before
 
 known :
     (c : Unreduced)
@@ -40,7 +40,6 @@ known c =
     let a = start c .args in
     let fits = start c .fits .step in
     record {
-      within = c .before .if1 .taken;
       start = search needs;
       last = search needs;
       small = sum-small (search needs) fits;
@@ -48,32 +47,37 @@ known c =
     }
 
 sub-low-word : tie.Need-sub-low-word
-sub-low-word c = less-bytes-fits (known (c .before .before)) (c .size .result) (gave (c .size .ensures) (c .size .ok))
+sub-low-word c = to-fits (known (c .before .before .before .before)) (c .size .result) (gave (c .size .ensures) (c .size .ok)) .0
 
 add-low-word : tie.Need-add-low-word
-add-low-word c = more-bytes-fits (known (c .before .before .before)) (c .size2 .result) (gave (c .size2 .ensures) (c .size2 .ok))
+add-low-word c = to-fits (known (c .before .before .before .before)) (c .size2 .result) (gave (c .size2 .ensures) (c .size2 .ok)) .1
 
 returns : tie.Need-returns
 returns c =
-    let size = c .before .size in
-    c .low-word .ensures ∙ above (known (c .before .before .before)) (size .result) (gave (size .ensures) (size .ok)) (c .before .before .if2 .taken)
+    let sized = c .before in
+    let size = sized .size in
+    c .low-word .ensures
+    ∙ above (known (sized .before .before .before .before)) (size .result) (gave (size .ensures) (size .ok)) (sized .before .before .if2 .taken)
+    (sized .before .if3 .taken)
 
 returns-2 : tie.Need-returns-2
 returns-2 c =
-    let size = c .before .size2 in
+    let sized = c .before in
+    let size = sized .size2 in
     c .low-word2 .ensures
-    ∙ below (known (c .before .before .before .before)) (size .result) (gave (size .ensures) (size .ok)) (c .before .before .before .if2 .left) (c .before .before .if3 .taken)
+    ∙ below (known (sized .before .before .before .before)) (size .result) (gave (size .ensures) (size .ok)) (sized .before .before .if2 .taken)
+    (sized .before .before .before .if1 .taken) (sized .before .if3 .left)
 
 returns-3 : tie.Need-returns-3
 returns-3 c =
-    let u = c .before .before .before in
-    c .stepped .ensures ∙ rw (toZ-ofZ (start u .fits .step)) (between (known u) (c .before .before .if2 .left) (c .before .if3 .left))
+    let s = start (c .before .before .before) in
+    let a = s .args in
+    c .stepped .ensures ∙ rw (toZ-ofZ (s .fits .step)) (elsewhere (a .buffer) (a .old .0) (a .step) (c .before .if2 .left))
 
 returns-4 : tie.Need-returns-4
 returns-4 c =
-    let start = c .before .before .before .before in
-    let a = start .args in
-    c .stepped2 .ensures ∙ rw (toZ-ofZ (start .fits .step)) (elsewhere (a .buffer) (a .old .0) (a .step) (c .before .if1 .left))
+    let u = c .before .before in
+    c .stepped2 .ensures ∙ rw (toZ-ofZ (start u .fits .step)) (between (known u) (c .before .if1 .left))
 
 pub circular-spec : {M : Type 1} → statement M
 circular-spec =
@@ -81,10 +85,11 @@ circular-spec =
     (tie.spec
     (λ c κs. tt)
     (λ c. search needs)
+    (λ c. search needs)
+    (λ c. search needs)
     (λ c κs. tt)
     sub-low-word
     (λ c κs. tt)
-    (λ c. search needs)
     (λ c κs. tt)
     add-low-word
     (λ c κs. tt)

@@ -11,14 +11,15 @@ use Rattle.state.proofs.Typing.{typed-state}
 use Rattle.state.specs.declared.state.State.{State}
 use Rattle.effects.specs.Lent.{stateOf}
 use Rattle.machine.proofs.Stands.{accepted-stands, stands-ready}
-use Rattle.engine.proofs.Fits.{Fit, file-listed}
-use Rattle.engine.proofs.Along.{Along, begins, from-given, ends-done, ends-spent, at-operation, ends-over, ends-last, goes-on}
+use Rattle.runs.specs.Engine.{engineRun}
+use Rattle.legs.proofs.Fits.{Fit, file-listed}
+use Rattle.legs.proofs.Along.{Along, begins, from-given, ends-done, ends-spent, at-operation, ends-over, ends-last, goes-on}
 use Rattle.engine.proofs.run.run_accepted.Statement.{statement}
 use Rattle.engine.proofs.run.run_accepted.Tie as tie
 
 abbrev Inv-loop : tie.InvT-loop
 Inv-loop file settings memory₀ budget count w₀ starts₀ passes₀ s₀ steps₀ memory w starts passes s steps =
-    Along (programOf file) settings budget (stateOf w₀ starts₀ passes₀ s₀) memory₀ (record { state = stateOf w starts passes s; memory = memory }) steps
+    Along (programOf file) settings budget (length memory₀) (engineRun (programOf file) settings budget (stateOf w₀ starts₀ passes₀ s₀) memory₀) (record { state = stateOf w starts passes s; memory = memory }) steps
 
 abbrev μ-loop : tie.MeasureT-loop
 μ-loop file settings memory₀ budget count w₀ starts₀ passes₀ s₀ steps₀ memory w starts passes s steps =

@@ -1,22 +1,22 @@
-//! speed case repeat, speed case loop, speed case reversed: writes one case of
-//! CASES.md, ten million MACs and a little over, by REPEAT or by loops alone, or as
-//! many bit-reversed stores.
+//! speed case NAME: writes one case of CASES.md, ten million MACs and a little over, by
+//! REPEAT (`repeat`) or by loops alone (`loop`), or as many bit-reversed stores
+//! (`reversed`); with `-decoded` after the name the same run over decoded operations.
 
 use std::process::ExitCode;
 
-use simulator::cases::bytes_of;
 use simulator::command::write_output;
-use simulator::generate::speed::{by_loops, by_repeat, by_reversal};
+use simulator::form::bytes_of;
+use simulator::generate::speed::{case_of, NAMES};
 
 fn main() -> ExitCode {
     write_output(output)
 }
 
 fn output(arguments: &[&str]) -> Result<Vec<u8>, String> {
-    match arguments {
-        ["case", "repeat"] => Ok(bytes_of(&by_repeat())),
-        ["case", "loop"] => Ok(bytes_of(&by_loops())),
-        ["case", "reversed"] => Ok(bytes_of(&by_reversal())),
-        _ => Err("usage: speed case repeat | loop | reversed".to_string()),
-    }
+    let case = match arguments {
+        ["case", name] => case_of(name),
+        _ => None,
+    };
+    let usage = || format!("usage: speed case {}", NAMES.join(" | "));
+    case.map(|case| bytes_of(&case)).ok_or_else(usage)
 }

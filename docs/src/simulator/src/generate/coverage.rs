@@ -17,7 +17,7 @@ pub struct Coverage {
     pub cases: usize,
     /// Runs by their ending, other calls by their answer: `run done`, `run trap3`,
     /// `load refused2`, `write written`, `long done`, `join refused9`,
-    /// `combine combined`, `call unknown`.
+    /// `combine combined`, `decoded refused8`, `call unknown`.
     pub endings: BTreeMap<String, usize>,
     /// Executions of each kind, traps without effect not counted.
     pub kinds: [u64; 26],
@@ -53,9 +53,19 @@ impl Coverage {
         let answer = match form {
             Form::Short(case) if case.what == What::Run => self.add_run(case).to_string(),
             Form::Long(long) if long.call == Call::Run => self.add_run(&long.start).to_string(),
+            Form::Long(long) if long.call == Call::Decoded => self.add_decoded(&long.start, form),
             _ => first_field(form),
         };
         *self.endings.entry(format!("{call} {answer}")).or_default() += 1;
+    }
+
+    /// Count a decoded run as the run it is, but for one whose slice is too short.
+    fn add_decoded(&mut self, case: &Case, form: &Form) -> String {
+        let answer = first_field(form);
+        if answer != "refused8" {
+            self.add_run(case);
+        }
+        answer
     }
 
     /// Count a run's start, and its kinds by stepping through it.
@@ -147,6 +157,7 @@ fn call_of(form: &Form) -> &'static str {
         Form::Long(long) => match long.call {
             Call::Run => "long",
             Call::Join => "join",
+            Call::Decoded => "decoded",
             Call::Combine => "combine",
             Call::Unknown(_) => "call",
         },

@@ -7,6 +7,7 @@ pub mod boards;
 pub mod case;
 pub mod coverage;
 pub mod damage;
+pub mod decoded;
 pub mod dot_product;
 pub mod edges;
 pub mod forms;
@@ -35,6 +36,7 @@ use std::io::{self, Write};
 use crate::cases::{Case, What};
 use crate::form::{bytes_of, line, Form};
 use boards::{cut_combine, random_combine};
+use decoded::random_decoded;
 use random::Random;
 use random_form::random_form;
 
@@ -80,12 +82,13 @@ pub fn short_mix(random: &mut Random) -> Form {
     Form::Short(random_case(random))
 }
 
-/// The mix of joins, runs of joined files, short and long, and combined boards, of which
-/// some have a file of another length.
+/// The mix of joins, runs of joined files, short and long, runs over decoded operations,
+/// and combined boards, of which some have a file of another length.
 pub fn long_mix(random: &mut Random) -> Form {
     match random.below(24) {
         0..=4 => Form::Long(random_combine(random)),
         5 => Form::Long(cut_combine(random)),
+        6..=9 => Form::Long(random_decoded(random)),
         _ => random_form(random),
     }
 }

@@ -43,13 +43,7 @@ pub fn random_form(random: &mut Random) -> Form {
 }
 
 fn long_form(call: Call, start: Case) -> Form {
-    Form::Long(Long {
-        call,
-        start,
-        second: Vec::new(),
-        words: 0,
-        room: 0,
-    })
+    Form::Long(Long::of(call, start))
 }
 
 fn either_form(random: &mut Random, run: Case) -> Form {
@@ -100,8 +94,8 @@ fn large_pair(random: &mut Random) -> Pair {
     pair
 }
 
-/// A call that is not here, or 22, to which a program file is of another length than its
-/// budget asks for.
+/// A call that is not here; or 21, a run over decoded operations with a slice of 64 words;
+/// or 22, to which a program file is of another length than its budget asks for.
 fn unknown_form(random: &mut Random, pair: Pair) -> Form {
     let any = random.range(18, 255) as u8;
     unknown_case(random.pick(&[18, 19, 20, 21, 22, any]), pair)

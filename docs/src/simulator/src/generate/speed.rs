@@ -2,10 +2,38 @@
 //! loops, bit-reversed stores by REPEAT.
 
 use super::bench::Bench;
+use super::decoded::twin;
 use super::forms::Bytes;
 use super::ops::{multiply_and_read, store, IDLE};
 use super::runs::build::{words, Program};
 use crate::cases::Case;
+use crate::form::Form;
+
+pub const NAMES: [&str; 6] = [
+    "repeat",
+    "loop",
+    "reversed",
+    "repeat-decoded",
+    "loop-decoded",
+    "reversed-decoded",
+];
+
+/// The case of a name; nothing for another name.
+pub fn case_of(name: &str) -> Option<Form> {
+    if let Some(plain) = name.strip_suffix("-decoded") {
+        return run_of(plain).map(|run| Form::Long(twin(run)));
+    }
+    run_of(name).map(Form::Short)
+}
+
+fn run_of(name: &str) -> Option<Case> {
+    match name {
+        "repeat" => Some(by_repeat()),
+        "loop" => Some(by_loops()),
+        "reversed" => Some(by_reversal()),
+        _ => None,
+    }
+}
 
 /// Words of X's and of Y's buffer.
 const LENGTH: usize = 64;

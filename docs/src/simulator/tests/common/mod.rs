@@ -125,7 +125,7 @@ fn stored(name: &str) -> Vec<u8> {
     std::fs::read(&path).unwrap_or_else(|error| panic!("{path}: {error}"))
 }
 
-/// The stored case to time, `repeat`, `loop` or `reversed`.
+/// The stored case to time, `repeat`, `loop`, `reversed` or one of them with `-decoded`.
 pub fn stored_speed(name: &str) -> Vec<u8> {
     stored(&format!("docs/speed/{name}.case"))
 }

@@ -151,7 +151,7 @@ fn raised_programs() -> Vec<Bench> {
 }
 
 /// pc is the count of operations already: done whatever the budget.
-fn at_the_end() -> Vec<Bench> {
+pub fn at_the_end() -> Vec<Bench> {
     let mut all = Vec::new();
     for (i, budget) in [0, 1, 2, 65_536, u32::MAX].into_iter().enumerate() {
         let flags = [0b0000, 0b1111, 0b0110, 0b1001, 0b0100][i];
@@ -169,7 +169,7 @@ fn at_the_end() -> Vec<Bench> {
 
 /// Traps 5, 6, 7 by the program's last operation with the last step of the
 /// budget, with one step less and with more.
-fn raised_by_the_last() -> Vec<Bench> {
+pub fn raised_by_the_last() -> Vec<Bench> {
     let high = (1 << 39) - 1;
     let starts = [
         (0x0100, 0, high, 1),

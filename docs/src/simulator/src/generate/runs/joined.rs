@@ -47,13 +47,7 @@ fn short(bench: Bench) -> Form {
 
 /// The same run in the long form.
 fn long(start: Case) -> Form {
-    Form::Long(Long {
-        call: Call::Run,
-        start,
-        second: Vec::new(),
-        words: 0,
-        room: 0,
-    })
+    Form::Long(Long::of(Call::Run, start))
 }
 
 fn in_both_forms(bench: Bench) -> [Form; 2] {

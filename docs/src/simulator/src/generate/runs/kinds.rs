@@ -153,7 +153,7 @@ fn prefetch_aims(&[_, _, _, b3, b4, _, b6, _]: &Bytes) -> Vec<Bytes> {
 }
 
 /// Kind 24 with all 128 mode words: products, sums, shifts and stores after each.
-fn modes() -> Vec<Bench> {
+pub fn modes() -> Vec<Bench> {
     let mut all = Vec::new();
     for first in (0..128).step_by(8) {
         let mut program = Program::new();

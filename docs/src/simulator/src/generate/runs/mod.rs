@@ -1,5 +1,5 @@
-//! The stored stream of runs, loads, writes, joins and combined boards for the program
-//! `cases`.
+//! The stored stream of runs, loads, writes, joins, combined boards and runs over decoded
+//! operations for the program `cases`.
 
 pub mod block_ends;
 pub mod boards;
@@ -7,6 +7,10 @@ pub mod budgets;
 pub mod build;
 pub mod carried;
 pub mod copies;
+pub mod decoded_endings;
+pub mod decoded_kinds;
+pub mod decoded_modes;
+pub mod decoded_refused;
 pub mod early;
 pub mod filters;
 pub mod joined;
@@ -18,12 +22,14 @@ pub mod next_addresses;
 pub mod refused;
 pub mod rounds;
 pub mod sizes;
+pub mod slices;
 pub mod starts;
 pub mod sums;
 pub mod unknown;
 
 use super::bench::Bench;
 use super::boards::random_combine;
+use super::decoded::random_decoded;
 use super::random::Random;
 use super::random_case;
 use super::random_form::random_form;
@@ -35,6 +41,7 @@ const SEED: u64 = 20;
 const RANDOM_CASES: usize = 2_000;
 const RANDOM_FORMS: usize = 200;
 const RANDOM_BOARDS: usize = 200;
+const RANDOM_DECODED: usize = 200;
 /// The longest file and the most words of the stored random cases.
 const SMALL_FILE: usize = 3 * BLOCK;
 const SMALL_MEMORY: usize = 400;
@@ -57,7 +64,7 @@ const PARTS: [Part; 11] = [
     ("refused", refused::cases),
 ];
 
-/// The last parts, about the bit-reversed register, made on the bench too.
+/// The parts about the bit-reversed register, made on the bench too.
 const REVERSED: [Part; 3] = [
     ("next_addresses", next_addresses::cases),
     ("rounds", rounds::cases),
@@ -81,7 +88,20 @@ pub fn parts() -> Vec<(&'static str, Vec<Form>)> {
     parts.push(("boards", boards::cases()));
     parts.push(("random_boards", random_boards()));
     parts.extend(REVERSED.into_iter().map(made));
+    parts.extend(decoded_parts());
     parts
+}
+
+/// The last parts, about runs over decoded operations.
+fn decoded_parts() -> [(&'static str, Vec<Form>); 6] {
+    [
+        ("slices", slices::cases()),
+        ("decoded_kinds", decoded_kinds::cases()),
+        ("decoded_modes", decoded_modes::cases()),
+        ("decoded_endings", decoded_endings::cases()),
+        ("decoded_refused", decoded_refused::cases()),
+        ("random_decoded", random_decoded_cases()),
+    ]
 }
 
 /// The stored stream: all parts, then a case that breaks off in its memory.
@@ -144,4 +164,12 @@ fn random_boards() -> Vec<Form> {
     let cases = std::iter::repeat_with(|| random_combine(&mut random));
     let small = cases.filter(|case| case.start.budget <= 40);
     small.take(RANDOM_BOARDS).map(Form::Long).collect()
+}
+
+/// Random runs over decoded operations with small files and memory.
+fn random_decoded_cases() -> Vec<Form> {
+    let mut random = Random::new(SEED);
+    let cases = std::iter::repeat_with(|| random_decoded(&mut random));
+    let small = cases.filter(|case| is_small(&case.start));
+    small.take(RANDOM_DECODED).map(Form::Long).collect()
 }

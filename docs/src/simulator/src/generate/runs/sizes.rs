@@ -30,7 +30,7 @@ fn mixed(place: usize) -> Bytes {
     }
 }
 
-fn straight(count: usize) -> Vec<Bytes> {
+pub fn straight(count: usize) -> Vec<Bytes> {
     (0..count).map(mixed).collect()
 }
 
@@ -48,9 +48,9 @@ fn lengths() -> Vec<Bench> {
 }
 
 /// DO's place, its last and its literal.
-type Looped = (u16, u16, u16);
+pub type Looped = (u16, u16, u16);
 
-fn with_loops(count: usize, loops: &[Looped]) -> Vec<Bytes> {
+pub fn with_loops(count: usize, loops: &[Looped]) -> Vec<Bytes> {
     let mut operations = straight(count);
     for &(place, last, literal) in loops {
         operations[usize::from(place)] = do_to(literal, last);

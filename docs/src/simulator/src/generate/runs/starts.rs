@@ -53,7 +53,7 @@ fn start_at(bench: Bench, pc: u16, passes: [u32; 4], left: u32) -> Bench {
     bench.repeating(if repeats { left } else { 0 })
 }
 
-fn every_place(passes: [u32; 4], left: u32, budget: u32) -> Vec<Bench> {
+pub fn every_place(passes: [u32; 4], left: u32, budget: u32) -> Vec<Bench> {
     let places = 0..=17;
     let start = |pc| start_at(nest(), pc, passes, left).budget(budget);
     places.map(start).collect()

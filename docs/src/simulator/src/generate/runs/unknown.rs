@@ -1,6 +1,6 @@
 //! Calls that are not here, with a file, a second file and words of memory to read
-//! over; a run after each shows that they were. Among them is 22, two stretches to be
-//! combined, with as much to read over.
+//! over; a run after each shows that they were. Among them are 21, a run over decoded
+//! operations, and 22, two stretches to be combined, with as much to read over.
 
 use super::build::{add, Program};
 use crate::cases::Case;
@@ -11,7 +11,7 @@ use crate::generate::bench::Bench;
 use crate::generate::random_form::unknown_case;
 use crate::succession::Pair;
 
-/// The calls that CASES.md lists, 22 alone of them here, and the last number there is.
+/// The calls that CASES.md lists, 21 and 22 of them here, and the last number there is.
 const CALLS: [u8; 6] = [18, 19, 20, 21, 22, 255];
 
 pub fn cases() -> Vec<Form> {

@@ -25,7 +25,7 @@ use Rattle.machine.proofs.Words.{put-memory-long, put-memory}
 use Rattle.machine.proofs.Places.{work-fitted}
 use Rattle.machine.proofs.Stands.{Stands, stepped-stands}
 use Rattle.runs.specs.Engine.{Engine, engineTurn, engineDone, engineRun}
-use Rattle.engine.proofs.Runs.{Keeps, run-keeps}
+use Rattle.legs.proofs.Runs.{Keeps, run-keeps}
 
 -- an engine whose state stands, with a memory of so many words
 pub record Fit (p : List Operation) (words : ℕ) (x : Engine) : Type 0 where

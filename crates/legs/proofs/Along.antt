@@ -21,16 +21,16 @@ use Rattle.endings.specs.declared.ending.Ending.the-variants.{Done, Spent, Trap
 use Rattle.runs.specs.Run.{Result, run}
 use Rattle.runs.specs.Run.Stop.{ended}
 use Rattle.runs.specs.Engine.{Engine, engineTurn, engineDone, engineFrom, engineRun}
-use Rattle.engine.proofs.Runs.{run-done}
-use Rattle.engine.proofs.Fits.{Fit, stepped-fits}
+use Rattle.legs.proofs.Runs.{run-done}
+use Rattle.legs.proofs.Fits.{Fit, stepped-fits}
 
 -- ---- one step
 
 -- a step that does not count leaves the engine
-abbrev Leaves : Engine → Step → Type 0
+abbrev pub Leaves : Engine → Step → Type 0
 Leaves x r = r .counted ≡ false → record { state = r .state; memory = r .memory } ≡ x
 
-uncounted-leaves : (p : List Operation) (settings : Settings) (x : Engine) → Leaves x (stepped p settings (x .state) (x .memory))
+pub uncounted-leaves : (p : List Operation) (settings : Settings) (x : Engine) → Leaves x (stepped p settings (x .state) (x .memory))
 unfolding stepped completed
 uncounted-leaves p settings x =
     let s = x .state in
@@ -43,15 +43,15 @@ uncounted-leaves p settings x =
 
 -- ---- a run
 
--- after so many steps the run from the start goes on from the engine x
-pub record Along (p : List Operation) (settings : Settings) (budget : ℕ) (s₀ : State) (memory₀ : List ℕ) (x : Engine) (steps : ℕ) : Type 0 where
-  pub fit : Fit p (length memory₀) x
+-- after so many steps the run that comes to y goes on from the engine x, with a memory of so many words
+pub record Along (p : List Operation) (settings : Settings) (budget words : ℕ) (y : Result Engine) (x : Engine) (steps : ℕ) : Type 0 where
+  pub fit : Fit p words x
   pub within : steps ≤ budget
-  pub same : engineFrom p settings (budget - steps) steps x ≡ engineRun p settings budget s₀ memory₀
+  pub same : engineFrom p settings (budget - steps) steps x ≡ y
 
 -- it goes on from the start
 pub begins : (p : List Operation) (settings : Settings) (budget : ℕ) (s : State) (memory : List ℕ)
-    → Fit p (length memory) (record { state = s; memory = memory }) → Along p settings budget s memory (record { state = s; memory = memory }) 0
+    → Fit p (length memory) (record { state = s; memory = memory }) → Along p settings budget (length memory) (engineRun p settings budget s memory) (record { state = s; memory = memory }) 0
 unfolding engineRun
 begins p settings budget s memory h =
     let whole : budget - 0 ≡ budget = omega arith in
@@ -62,9 +62,9 @@ pub from-given : (p : List Operation) (settings : Settings) (budget : ℕ) (memo
     → y ≡ engineRun p settings budget s₀ memory → y ≡ engineRun p settings budget s memory
 from-given p settings budget memory e h = h ∙ ap (λ (z : State). engineRun p settings budget z memory) e
 
-module _ {p : List Operation} {settings : Settings} {budget : ℕ} {s₀ : State} {memory₀ : List ℕ} {x : Engine} {steps : ℕ}
-    (h : Along p settings budget s₀ memory₀ x steps) where
-  pub ends-done : x .state .core .pc ≡ length p → record { machine = x; steps = steps; stop = ended Done } ≡ engineRun p settings budget s₀ memory₀
+module _ {p : List Operation} {settings : Settings} {budget words : ℕ} {y : Result Engine} {x : Engine} {steps : ℕ}
+    (h : Along p settings budget words y x steps) where
+  pub ends-done : x .state .core .pc ≡ length p → record { machine = x; steps = steps; stop = ended Done } ≡ y
   ends-done e =
       sym (run-done (engineDone p) (λ k. engineTurn p settings) (budget - steps) steps x (eq-eqb (x .state .core .pc) (length p) e)) ∙ h .same
 
@@ -76,7 +76,7 @@ module _ {p : List Operation} {settings : Settings} {budget : ℕ} {s₀ : State
     unfolding run
     spent-now n e = rw (e, not-done)
 
-    pub ends-spent : steps ≡ budget → record { machine = x; steps = steps; stop = ended Spent } ≡ engineRun p settings budget s₀ memory₀
+    pub ends-spent : steps ≡ budget → record { machine = x; steps = steps; stop = ended Spent } ≡ y
     ends-spent q = spent-now (budget - steps) (omega arith) ∙ h .same
 
     -- there is an operation at pc
@@ -92,7 +92,7 @@ module _ {p : List Operation} {settings : Settings} {budget : ℕ} {s₀ : State
       used = let k : steps ≤ budget = h .within in omega arith
 
       -- the run from here, of which this is a step
-      from-here : engineFrom p settings (suc (budget - (steps + 1))) steps x ≡ engineRun p settings budget s₀ memory₀
+      from-here : engineFrom p settings (suc (budget - (steps + 1))) steps x ≡ y
       from-here = rw used at (h .same)
 
       over-now : r .counted ≡ false → (n : ℕ)
@@ -102,7 +102,7 @@ module _ {p : List Operation} {settings : Settings} {budget : ℕ} {s₀ : State
 
       -- a trap 1 to 4
       pub ends-over : r .counted ≡ false
-          → record { machine = x′; steps = steps; stop = ended (Trap (r .trap)) } ≡ engineRun p settings budget s₀ memory₀
+          → record { machine = x′; steps = steps; stop = ended (Trap (r .trap)) } ≡ y
       ends-over f =
           rw (rw (sym is) at (uncounted-leaves p settings x) f) (over-now f (budget - (steps + 1)) ∙ from-here)
 
@@ -113,7 +113,7 @@ module _ {p : List Operation} {settings : Settings} {budget : ℕ} {s₀ : State
 
       -- a trap 5 to 7
       pub ends-last : r .counted ≡ true → (r .trap ≡ 0 → ⊥)
-          → record { machine = x′; steps = steps + 1; stop = ended (Trap (r .trap)) } ≡ engineRun p settings budget s₀ memory₀
+          → record { machine = x′; steps = steps + 1; stop = ended (Trap (r .trap)) } ≡ y
       ends-last f z = rw add-one (last-now f z (budget - (steps + 1)) ∙ from-here)
 
       next-now : r .counted ≡ true → r .trap ≡ 0 → (n : ℕ) → engineFrom p settings n (suc steps) x′ ≡ engineFrom p settings (suc n) steps x
@@ -122,10 +122,10 @@ module _ {p : List Operation} {settings : Settings} {budget : ℕ} {s₀ : State
 
       -- no trap
       pub goes-on : isPlaced p ≡ true → ((i : ℕ) → i < length p → isListed (operationAt p i) ≡ true) → r .counted ≡ true → r .trap ≡ 0
-          → Along p settings budget s₀ memory₀ x′ (steps + 1)
+          → Along p settings budget words y x′ (steps + 1)
       goes-on placed ok f z =
           record {
-            fit = rw is (stepped-fits p placed ok settings (length memory₀) x at-operation (h .fit));
+            fit = rw is (stepped-fits p placed ok settings words x at-operation (h .fit));
             within = let w : steps ≤ budget = h .within in omega arith;
             same =
                 ap (λ (j : ℕ). engineFrom p settings (budget - (steps + 1)) j x′) (add-one steps)

@@ -1,0 +1,4 @@
+pub mod Runs
+pub mod Fits
+pub mod Along
+pub mod Legs

@@ -1,0 +1,2 @@
+-- Legs of a run: where one begins, where it ends, and what a whole run over decoded words comes to.
+pub mod Leg

@@ -1,0 +1,2 @@
+// Legs of a run over a window of decoded words.
+pub mod leg;

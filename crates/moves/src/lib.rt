@@ -1,0 +1,3 @@
+// Kinds 8 to 18 over an operation's words.
+pub mod arithmetic;
+pub mod transfer;

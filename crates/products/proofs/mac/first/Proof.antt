@@ -1,0 +1,13 @@
+-- `mac::first` meets its contract. Assumes nothing.
+use Rattle.effects.proofs.Traps.{first-some}
+use Rattle.products.proofs.mac.first.Statement.{statement}
+use Rattle.products.proofs.mac.first.Tie as tie
+
+returns : tie.Need-returns
+returns c = rw (c .if1 .taken)
+
+returns-2 : tie.Need-returns-2
+returns-2 c = first-some _ _ (c .if1 .left)
+
+pub first-spec : {M : Type 1} → statement M
+first-spec = tie.close (tie.spec returns returns-2)

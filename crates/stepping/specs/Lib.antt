@@ -1,0 +1,2 @@
+-- What one step over an operation's words leaves.
+pub mod Turned
