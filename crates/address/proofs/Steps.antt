@@ -1,17 +1,18 @@
 -- Sums and steps have 16 bits, the circular step takes the cases of its definition, and its i64 sums fit: by arithmetic. Assumes nothing.
 use mathlib.Core.Path.{_≡_, refl, sym, _∙_}
-use mathlib.Core.Bool.{Bool, true, false, _||_}
+use mathlib.Core.Bool.{true, false}
 use Prim.Native.Nat.{ℕ, _+_, _^_, _<_}
 use native.Mathlib.Nat.{mod-lt}
 use native.Mathlib.Omega.{arith}
-use lib.Dec.{lit<}
+use borrow.Author.Tests.{leb-true}
+use lib.Dec.{leb, lit<}
 use lib.IntN.{ℤ, pos, _+ℤ_, _-ℤ_}
 use lib.Signed.{ltZ, mag}
 use mir.Syntax.{w16, w64}
 use mir.Val.{Fits, SFits, toZ, ofZ}
 use mir.Facts.{toZ-ofZ}
 use Rattle.integers.specs.Bits.{lowBits}
-use Rattle.integers.proofs.Whole.{whole, size, sum, less, neither, by-test}
+use Rattle.integers.proofs.Whole.{whole, size, sum, less, both, by-test, lt-yes, no-lt}
 use Rattle.integers.proofs.Fitting.{word-plain}
 use Rattle.integers.proofs.Low.{low-size}
 use Rattle.address.specs.declared.step.Buffer.{Buffer}
@@ -55,17 +56,6 @@ bytes-fit to n h l = (omega (whole, size (to -ℤ n), less to n, size to, size n
 
 -- ---- the cases
 
-pub elsewhere :
-    (buffer : Buffer) (old : ℕ) (step : ℤ) → isWithin (buffer .start .0) (buffer .last .0) old ≡ false
-    → steppedOf old step ≡ circularOf buffer old step
-unfolding circularOf steppedOf
-elsewhere buffer old step h = rw h
-
--- of two tests of which one holds, the first does where the second does not
-first-holds : (t u : Bool) → (t || u) ≡ true → u ≡ false → t ≡ true
-first-holds true u h e = refl
-first-holds false u h e = sym e ∙ h
-
 -- what the code knows of its local `to`: it is the unreduced sum
 pub record Known (buffer : Buffer) (old : ℕ) (step to : ℤ) : Type 0 where
   pub start : Fits w16 (buffer .start .0)
@@ -85,15 +75,16 @@ module _ {buffer : Buffer} {old : ℕ} {step to : ℤ} (k : Known buffer old ste
   start-test : ltZ (toZ w64 (ofZ w64 to)) (toZ w64 (buffer .start .0)) ≡ ltZ (pos old +ℤ step) (pos (buffer .start .0))
   start-test = rw (k .to-is, word-plain (k .start))
 
-  pub between :
-      (ltZ (toZ w64 (ofZ w64 to)) (toZ w64 (buffer .start .0)) || ltZ (toZ w64 (buffer .last .0)) (toZ w64 (ofZ w64 to))) ≡ false
+  -- nothing is corrected unless the old address is within and the sum is not
+  pub plain :
+      (isWithin (buffer .start .0) (buffer .last .0) old ≡ true → ltZ (toZ w64 (ofZ w64 to)) (toZ w64 (buffer .start .0)) ≡ false)
+      → (isWithin (buffer .start .0) (buffer .last .0) old ≡ true → ltZ (toZ w64 (buffer .last .0)) (toZ w64 (ofZ w64 to)) ≡ false)
       → steppedOf old step ≡ circularOf buffer old step
   unfolding circularOf correctedOf steppedOf
-  between t =
+  plain low high =
       let sum = pos old +ℤ step in
-      let parts = neither (ltZ (toZ w64 (ofZ w64 to)) (toZ w64 (buffer .start .0))) (ltZ (toZ w64 (buffer .last .0)) (toZ w64 (ofZ w64 to))) t in
-      rw (sym last-test ∙ parts .1, sym start-test ∙ parts .0)
-      (by-test (λ (z : ℤ). lowBits 16 sum ≡ lowBits 16 z) (isWithin (buffer .start .0) (buffer .last .0) old) (λ e. refl) (λ e. refl))
+      by-test (λ (z : ℤ). lowBits 16 sum ≡ lowBits 16 z) (isWithin (buffer .start .0) (buffer .last .0) old)
+      (λ within. rw (sym last-test ∙ high within, sym start-test ∙ low within)) (λ outside. refl)
 
   -- the buffer's bytes are taken off or added
   module _ (bytes : ℤ) (n : Sized buffer bytes) where
@@ -108,8 +99,14 @@ module _ {buffer : Buffer} {old : ℕ} {step to : ℤ} (k : Known buffer old ste
       above t = rw (toZ-ofZ (to-fits .0), k .to-is, n, within, sym last-test ∙ t)
 
       pub below :
-          (ltZ (toZ w64 (ofZ w64 to)) (toZ w64 (buffer .start .0)) || ltZ (toZ w64 (buffer .last .0)) (toZ w64 (ofZ w64 to))) ≡ true
-          → ltZ (toZ w64 (buffer .last .0)) (toZ w64 (ofZ w64 to)) ≡ false
+          ltZ (toZ w64 (ofZ w64 to)) (toZ w64 (buffer .start .0)) ≡ true
           → lowBits 16 (toZ w64 (ofZ w64 (toZ w64 (ofZ w64 to) +ℤ toZ w64 (ofZ w64 bytes)))) ≡ circularOf buffer old step
       unfolding circularOf correctedOf
-      below out t = rw (toZ-ofZ (to-fits .1), k .to-is, n, within, sym last-test ∙ t, sym start-test ∙ first-holds _ _ out t)
+      below t =
+          let s : ℕ = buffer .start .0 in
+          let e : ℕ = buffer .last .0 in
+          let sum : ℤ = pos old +ℤ step in
+          let under : ltZ sum (pos s) ≡ true = sym start-test ∙ t in
+          let parts = both (leb s old) (leb old e) within in
+          let high : ltZ (pos e) sum ≡ false = no-lt (pos e) sum (omega (whole, lt-yes sum (pos s) under, leb-true s old (parts .0), leb-true old e (parts .1))) in
+          rw (toZ-ofZ (to-fits .1), k .to-is, n, within, high, under)

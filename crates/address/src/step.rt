@@ -3,7 +3,7 @@ use crate::word::ByteAddress;
 ghost use mathlib.Core.Path.{_≡_};
 ghost use lib.IntN.{pos, _+ℤ_};
 ghost use Rattle.integers.specs.Bits.{lowBits};
-ghost use Rattle.address.specs.Step.{addressSum, steppedOf, sizeOf, circularOf};
+ghost use Rattle.address.specs.Step.{addressSum, steppedOf, isWithin, sizeOf, circularOf};
 
 // A circular buffer: its first and its last byte, the paper's S and E.
 pub struct Buffer {
@@ -61,6 +61,16 @@ fn size(start: ByteAddress, last: ByteAddress) -> i64
     apart + 1
 }
 
+// Whether an address is within a buffer.
+fn within(buffer: Buffer, a: ByteAddress) -> bool
+    ensures { λ b. ⌜ b ≡ isWithin (buffer .start .0) (buffer .last .0) (a .0) ⌝ }
+{
+    let s = buffer.start.0;
+    let e = buffer.last.0;
+    let at = a.0;
+    (s <= at) & (at <= e)
+}
+
 // An address stepped in a circular buffer: the unreduced sum is corrected once, and only then reduced to 16 bits.
 pub fn circular(buffer: Buffer, old: ByteAddress, step: i16) -> ByteAddress
     ensures { λ r. ⌜ r .0 ≡ circularOf buffer (old .0) step ⌝ }
@@ -69,19 +79,16 @@ pub fn circular(buffer: Buffer, old: ByteAddress, step: i16) -> ByteAddress
     let last = buffer.last;
     let s = start.0;
     let e = last.0;
-    let at = old.0;
     let to = unreduced(old, step);
-    if (to < s as i64) | ((e as i64) < to) {
-        if (s <= at) & (at <= e) {
-            if (e as i64) < to {
-                ByteAddress(low_word(to - size(start, last)))
-            } else {
-                ByteAddress(low_word(to + size(start, last)))
-            }
-        } else {
-            stepped(old, step)
+    if to < s as i64 {
+        if within(buffer, old) {
+            return ByteAddress(low_word(to + size(start, last)));
         }
-    } else {
-        stepped(old, step)
     }
+    if (e as i64) < to {
+        if within(buffer, old) {
+            return ByteAddress(low_word(to - size(start, last)));
+        }
+    }
+    stepped(old, step)
 }

@@ -3,7 +3,6 @@ use Prim.Native.Nat.{ℕ, _+_, _%_, _^_, _≤_, _<_}
 use native.Mathlib.Nat.{lt-of-lt-of-le}
 use lib.Dec.{lit≤}
 use mathlib.Core.Bool.{true}
-use mathlib.Core.List.{[]}
 use mathlib.Core.Path.{_≡_, ap, _∙_}
 use native.Mathlib.Omega.{arith}
 use lib.IntN.{ℤ, pos, negℤ, natAbs, _+ℤ_, _-ℤ_, _*ℤ_}
@@ -17,13 +16,8 @@ use Rattle.integers.proofs.Low.{low-size, low-up}
 use Rattle.integers.proofs.Modulo.{wrapped}
 use Rattle.accumulator.specs.Limit.{isAccumulator}
 use Rattle.accumulator.specs.Shift.{shiftAllowed}
-use Rattle.accumulator.specs.declared.mode.Target.{Target}
-use Rattle.accumulator.specs.declared.mode.Target.the-variants.{A, B}
 use Rattle.accumulator.proofs.Sizes.{accumulator-within, within-accumulator, signed-size, allowed-size, shift-within}
-use Rattle.state.specs.State.{accumulatorOf}
 use Rattle.effects.specs.Operations.{byteShift, loadedValue}
-use Rattle.effects.specs.Lent.{coreOf}
-use Rattle.effects.specs.declared.scalars.Scalars.{Scalars}
 
 -- a sum of two accumulators
 pub sum-fits : (x y : ℤ) → isAccumulator x ≡ true → isAccumulator y ≡ true → SFits w64 (x +ℤ y)
@@ -58,13 +52,6 @@ wraps-back x y r a b l e =
     let small : low < 2 ^ 16 = low-size 16 z in
     omega (arith, a, b, l, e, wraps, small)
 
--- ---- accumulators by their target
-
-pub by-target : (s : Scalars) (t : Target) → isAccumulator (s .a) ≡ true → isAccumulator (s .b) ≡ true
-    → isAccumulator (accumulatorOf (coreOf [] [] [] s) t) ≡ true
-by-target s A a b = a
-by-target s B a b = b
-
 -- ---- shifts
 
 -- a shift's byte is one of -8 .. 7
@@ -98,10 +85,3 @@ pub load-fits : (v z : ℤ) → isAccumulator v ≡ true → mag z < 2 ^ 56 → 
 load-fits v z a l =
     let k : mag v < 2 ^ 39 = accumulator-within v a in
     omega (whole, k, l, size v, size z, size (v +ℤ z), sum v z)
-
--- a byte less 8
-pub byte-wide : (b : ℕ) → b < 256 → toZ w64 b ≡ pos b
-byte-wide b h = toZ-pos w64 (lt-of-lt-of-le h (lit≤ tt))
-
-pub byte-less-eight : (b : ℕ) → b < 256 → SFits w64 (toZ w64 b -ℤ pos 8)
-byte-less-eight b h = rw (byte-wide b h) (omega (whole, h, size (pos b -ℤ pos 8), less (pos b) (pos 8)))

@@ -1,5 +1,5 @@
--- What single operations come to, each value worked out by hand from document 01: a store through its own pointer, write-back, a trap without
--- effect. Assumes nothing.
+-- What single operations come to, each value worked out by hand from document 01: a store through its own pointer, an X read, write-back, a trap
+-- without effect. Assumes nothing.
 use Prim.Native.Nat.{ℕ}
 use mathlib.Core.Path.{_≡_, refl}
 use mathlib.Core.Bool.{true, false}
@@ -15,15 +15,15 @@ use Rattle.address.specs.Word.{wordOf}
 use Rattle.address.specs.Region.{isInside, accessTrap}
 use Rattle.address.specs.Step.{steppedOf}
 use Rattle.operations.specs.declared.operation.Action.the-variants.{Movsac}
-use Rattle.operations.specs.declared.operation.Prefetch.the-variants.{None as NoRead}
-use Rattle.operations.specs.declared.operation.WriteBack.the-variants.{Register as ToRegister}
+use Rattle.operations.specs.declared.operation.Prefetch.the-variants.{None as NoRead, Pointer}
+use Rattle.operations.specs.declared.operation.WriteBack.the-variants.{None as NoWriteBack, Register as ToRegister}
 use Rattle.operations.specs.declared.operation.PostModification.the-variants.{Increment}
 use Rattle.operations.specs.declared.operation.Operation.{Operation}
 use Rattle.operations.specs.declared.operation.Operation.the-variants.{MacClass as MacOperation, Load, Store}
 use Rattle.state.specs.Settings.{plainSettings}
 use Rattle.state.specs.State.{noLoops}
 use Rattle.state.specs.declared.state.Core.{Core}
-use Rattle.effects.specs.Pointer.{movedOf, raisedOf, changeOf}
+use Rattle.effects.specs.Pointer.{movedOf, stepOf, raisedOf, changeOf}
 use Rattle.effects.specs.Access.{operandAccess, prefetchAccess, backAccess, wordAt, changed}
 use Rattle.effects.specs.Effect.{Work}
 use Rattle.effects.specs.Mac.{exactBy, macExact, macAccesses, arrived, macRegisters, macWork}
@@ -42,12 +42,25 @@ coreOn w = record { w = w; a = pos 3; b = pos 5; pc = 0; loops = noLoops; repeat
 -- opened: what an operation comes to with these registers and 4 words of memory, 2 of them X's
 unfoldable workFrom : Operation → List ℕ → Work
 unfolding workOf macWork macAccesses macExact macRegisters exactBy arrived storeWork moveWork operandAccess prefetchAccess backAccess wordAt changed
-    movedOf raisedOf changeOf wordOf isInside accessTrap steppedOf lowBits remainderOf modeOf plainSettings
+    movedOf stepOf raisedOf changeOf wordOf isInside accessTrap steppedOf lowBits remainderOf modeOf plainSettings
 workFrom o w = workOf (plainSettings 2) (modeOf 0x20) o (coreOn w) (100 ∷ 101 ∷ 102 ∷ 103 ∷ [])
 
 -- MOVSAC without reads, with write-back to W13
 abbrev backFrom : Target → Operation
 backFrom t = MacOperation (record { action = Movsac; target = t; m = 0; n = 0; x = NoRead; xto = 0; y = NoRead; yto = 0; back = ToRegister })
+
+-- MOVSAC with an X read at W8, then W8 + 2, to W4
+abbrev xReadFrom : Operation
+xReadFrom =
+    MacOperation (record { action = Movsac; target = A; m = 0; n = 0; x = Pointer 8 4; xto = 4; y = NoRead; yto = 0; back = NoWriteBack })
+
+-- X reads fall in the first 2 words: word 1 is read, and word 2 is trap 2
+x-read :
+    (workFrom xReadFrom (pointing 0x1002) .w ≡ set (pointing 0x1004) 4 101)
+    × (workFrom xReadFrom (pointing 0x1002) .effect .trap ≡ 0)
+    × (workFrom xReadFrom (pointing 0x1004) .effect .trap ≡ 2)
+unfolding workFrom
+x-read = (refl, refl, refl)
 
 -- 18 stores the old W8 through W8, to word 1; W8 then is 2 more
 store-of-pointer :

@@ -1,8 +1,6 @@
--- What an operation comes to, in the order of document 01: "Operations" and "Addresses" (pointers, accesses, effects). Lent ties the pieces that the
--- stepping code is handed to a state.
+-- What an operation comes to, in the order of document 01: "Operations" and "Addresses" (pointers, accesses, effects).
 pub mod Pointer
 pub mod Access
 pub mod Effect
 pub mod Mac
 pub mod Operations
-pub mod Lent

@@ -1,3 +1,4 @@
+-- Worked examples; the laws of exact sums and of exact even after overflow; the calls.
 pub mod CallExamples
 pub mod Agree
 pub mod Split
@@ -11,3 +12,4 @@ pub mod Steps
 pub mod Endings
 pub mod Calls
 pub mod Windows
+pub mod OneStep

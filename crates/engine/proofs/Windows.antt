@@ -1,14 +1,14 @@
--- The call for a run over decoded operations: refused, too short a slice, or run. Assumes nothing.
-use Prim.Native.Nat.{ℕ, zero, suc, _*_, _≤_, _<_}
-use mathlib.Core.Bool.{_&&_}
-use mathlib.Core.List.{List}
+-- Windows on a file's words: all, one, none; and the call over decoded operations: refused, too short a slice, or run. Assumes nothing.
+use Prim.Native.Nat.{ℕ, _*_, _≤_, _<_}
+use mathlib.Core.Bool.{Bool, true, false, _&&_}
+use mathlib.Core.List.{List, [], _∷_, append-nil}
 use mathlib.Core.Path.{_≡_, refl, sym, ap, _∙_}
-use native.Mathlib.Nat.{zero-add}
+use native.Mathlib.Nat.{zero-add, add-zero}
 use native.Mathlib.Omega.{arith}
-use borrow.Author.Tests.{lt-leb, ltb-true}
-use lib.Dec.{leb, ltb}
-use lib.ListN.{length}
-use Rattle.integers.proofs.Whole.{both}
+use borrow.Author.Tests.{lt-leb, ltb-true, eqb-true}
+use lib.Dec.{eqb, leb, ltb}
+use lib.ListN.{length, getD}
+use Rattle.integers.proofs.Whole.{both, never}
 use Rattle.operations.specs.declared.operation.Operation.{Operation}
 use Rattle.operations.specs.declared.operation.Operation.the-variants.{EndEarly}
 use Rattle.program.specs.Answer.{_then_, roomRefusal}
@@ -17,31 +17,35 @@ use Rattle.program.specs.File.{fileRefusal, operationCount, programOf}
 use Rattle.program.proofs.Accepted.{accepted-blocks, program-length, program-placed}
 use Rattle.program.proofs.Answers.{cond-zero, room-fits}
 use Rattle.program.proofs.Places.{count-range}
-use Rattle.form.specs.Form.{formOf, Holds}
+use Rattle.form.specs.Words.{wordsFor}
+use Rattle.form.specs.Form.{formOf}
 use Rattle.form.proofs.Fields.{held-encoded}
-use Rattle.form.proofs.Programs.{held-operation, over-holds}
+use Rattle.form.proofs.Programs.{Holds, held-operation, over-holds}
 use Rattle.state.specs.Settings.{isParted, isTrapWord, isX, isY, isReversed, areSettings, settingsRefusal}
 use Rattle.state.specs.Typed.{Typed, AreWords}
 use Rattle.state.specs.declared.settings.Settings.{Settings}
 use Rattle.state.specs.declared.state.State.{State}
+use Rattle.effects.proofs.Traps.{first-some}
 use Rattle.machine.specs.Single.{callRefusal}
 use Rattle.machine.specs.Step.{operationAt}
-use Rattle.machine.proofs.Calls.{if-refused, call-settings, call-state, call-most}
-use Rattle.sequencer.specs.Standing.{Lasts}
+use Rattle.machine.proofs.Calls.{if-refused, call-most}
+use Rattle.endings.specs.Ending.{numberOf}
 use Rattle.endings.specs.declared.ending.Ending.the-variants.{Refused}
 use Rattle.runs.specs.Engine.{engineRun}
-use Rattle.legs.specs.Leg.{Window, Runnable}
+use Rattle.legs.specs.Leg.{Window}
 use Rattle.legs.proofs.Fits.{file-listed}
 use Rattle.engine.specs.Call.{resultOf}
 use Rattle.engine.specs.Decoded.{decodedRefusal, RunsDecoded}
+use Rattle.engine.specs.Span.{wholeOf, Has}
 use Rattle.engine.specs.declared.outcome.Outcome.{Outcome}
+use Rattle.engine.specs.declared.run.Span.{Span}
 use Rattle.engine.proofs.Calls.{call-refused, call-run}
 
 -- ---- the X part lies in memory
 
-part-in : (settings : Settings) (words : ℕ) → settingsRefusal settings words ≡ 0 → settings .xwords ≤ words
+pub x-part-in : (settings : Settings) (words : ℕ) → settingsRefusal settings words ≡ 0 → settings .xwords ≤ words
 unfolding settingsRefusal areSettings isParted
-part-in settings words e =
+x-part-in settings words e =
     let x = settings .xwords in
     let trap = isTrapWord (settings .traps) in
     let four = cond-zero (areSettings settings words) 5 e in
@@ -74,22 +78,49 @@ module _ (file code old : List ℕ) (accepted : fileRefusal file ≡ 0) (decoded
             λ i l. ap (operationAt p) (zero-add i) ∙ sym (held-operation holds i EndEarly (rw count l) (file-listed file accepted i (rw count l)));
       }
 
-  pub whole-runnable : {settings : Settings} {s : State} {words : ℕ} {lasts : List ℕ} → callRefusal file settings s words ≡ 0
-      → Lasts p (s .core .loops .starts) lasts (s .core .loops .depth) → Runnable p code (operationCount file) lasts settings s words
-  whole-runnable {settings} {s} {words} none kept =
-      record {
-        window = whole-window;
-        whole = program-length file accepted;
-        accepted = call-state file settings s words none;
-        part = part-in settings words (call-settings file settings s words none);
-        kept = kept;
-      }
+-- ---- the words of one operation are a window on it
+
+pub one-window : (file code old : List ℕ) (i : ℕ) → fileRefusal file ≡ 0 → i < operationCount file
+    → code ≡ over (wordsFor (getD (programOf file) i EndEarly)) old → Window (programOf file) code i 1
+one-window file code old i accepted l decoded =
+    let p = programOf file in
+    let count : length p ≡ operationCount file = program-length file accepted in
+    let o : Operation = getD p i EndEarly in
+    let listed = file-listed file accepted i (rw count l) in
+    let holds : Holds code (o ∷ []) = over-holds (o ∷ []) code old (decoded ∙ rw (append-nil (wordsFor o))) in
+    record {
+      placed = program-placed file accepted;
+      listed = file-listed file accepted;
+      most = rw count (count-range file (accepted-blocks file accepted) .1);
+      inside = omega arith;
+      words = λ j k. let none : j ≡ 0 = omega arith in rw none (held-encoded holds 0 EndEarly (omega arith) listed);
+      same = λ j k. let none : j ≡ 0 = omega arith in rw (none, add-zero i) (sym (held-operation holds 0 EndEarly (omega arith) listed));
+    }
+
+-- no operation
+
+pub none-window : (file words : List ℕ) → fileRefusal file ≡ 0 → Window (programOf file) words 0 0
+none-window file words accepted =
+    let count : length (programOf file) ≡ operationCount file = program-length file accepted in
+    record {
+      placed = program-placed file accepted;
+      listed = file-listed file accepted;
+      most = rw count (count-range file (accepted-blocks file accepted) .1);
+      inside = omega arith;
+      words = λ j k. absurd (omega arith);
+      same = λ j k. absurd (omega arith);
+    }
+
+-- a span of the whole file has every operation, so it stays with its words
+
+pub kept-whole : {file : List ℕ} {pc : ℕ} {at₀ at at′ : Span} {words₀ words words′ : List ℕ} → (at₀ ≡ wholeOf file → (at ≡ at₀) × (words ≡ words₀))
+    → pc < operationCount file → Has file pc at words at′ words′ → at₀ ≡ wholeOf file → (at′ ≡ at₀) × (words′ ≡ words₀)
+kept-whole {file} {pc} {at₀} {at} same l has e =
+    let is : at ≡ wholeOf file = same e .0 ∙ e in
+    let stays = has .stays (rw is (omega arith)) (rw is (omega (arith, l))) in
+    (stays .0 ∙ same e .0, stays .1 ∙ same e .1)
 
 -- ---- what the call promises
-
-then-stays : (a b : ℕ) → (a ≡ 0 → ⊥) → a ≡ a then b
-then-stays zero b h = absurd (h refl)
-then-stays (suc a) b h = refl
 
 module _ (file : List ℕ) (settings : Settings) (s : State) (memory : List ℕ) (budget : ℕ) (lent : List ℕ) where
   abbrev before : ℕ
@@ -101,10 +132,12 @@ module _ (file : List ℕ) (settings : Settings) (s : State) (memory : List ℕ)
   unfolding decodedRefusal
   decoded-refused n e h =
       let some : before ≡ 0 → ⊥ = λ z. h (e ∙ z) in
-      let same = then-stays before (roomRefusal (16 * operationCount file) (length lent)) some in
+      let same = first-some before (roomRefusal (16 * operationCount file) (length lent)) some in
       let most : before ≤ 7 = call-most file settings s (length memory) in
       record {
         short = λ eight. absurd (omega (arith, same, eight));
+        name = λ eight. absurd (omega (arith, same, eight));
+        number = λ eight. absurd (omega (arith, same, eight));
         runs = λ other. call-refused file settings s memory budget n e h;
         words = if-refused _ _ _ (λ z. some (same ∙ z));
       }
@@ -113,11 +146,11 @@ module _ (file : List ℕ) (settings : Settings) (s : State) (memory : List ℕ)
     -- 8
     pub decoded-short : length lent < 16 * operationCount file
         → RunsDecoded file settings s memory budget lent (record { ending = Refused 8; state = s; steps = 0 }) memory lent
-    unfolding decodedRefusal
+    unfolding decodedRefusal numberOf
     decoded-short l =
         let eight : roomRefusal (16 * operationCount file) (length lent) ≡ 8 = rw (lt-leb (16 * operationCount file) (length lent) l) in
         let is : before then roomRefusal (16 * operationCount file) (length lent) ≡ 8 = rw none eight in
-        record { short = λ e. refl; runs = λ other. absurd (other is); words = rw is }
+        record { short = λ e. refl; name = λ e. refl; number = λ e. refl; runs = λ other. absurd (other is); words = rw is }
 
     -- none
     pub decoded-runs : 16 * operationCount file ≤ length lent → Typed (s .core) → AreWords memory → (r : Outcome) (after slice : List ℕ)
@@ -129,6 +162,23 @@ module _ (file : List ℕ) (settings : Settings) (s : State) (memory : List ℕ)
         let zero-eight : before then roomRefusal (16 * operationCount file) (length lent) ≡ 0 = rw none (room-fits (16 * operationCount file) (length lent) l) in
         record {
           short = λ e. absurd (omega (arith, zero-eight, e));
+          name = λ e. absurd (omega (arith, zero-eight, e));
+          number = λ e. absurd (omega (arith, zero-eight, e));
           runs = λ other. runs;
           words = rw zero-eight words;
         }
+
+-- no answer is free, by the contract alone: two outcomes of one call are the same, with the memory and the slice that they leave
+pub decoded-determined : (file : List ℕ) (settings : Settings) (s : State) (memory : List ℕ) (budget : ℕ) (lent : List ℕ) (r r′ : Outcome) (after after′ slice slice′ : List ℕ)
+    → RunsDecoded file settings s memory budget lent r after slice → RunsDecoded file settings s memory budget lent r′ after′ slice′
+    → (resultOf r after ≡ resultOf r′ after′) × (slice ≡ slice′)
+decoded-determined file settings s memory budget lent r r′ after after′ slice slice′ h k = (go (eqb n 8) refl, h .words ∙ sym (k .words))
+  where
+    n : ℕ
+    n = decodedRefusal file settings s (length memory) (length lent)
+
+    go : (t : Bool) → eqb n 8 ≡ t → resultOf r after ≡ resultOf r′ after′
+    go true e = h .short (eqb-true n 8 e) ∙ sym (k .short (eqb-true n 8 e))
+    go false e =
+        let other : n ≡ 8 → ⊥ = λ z. never (sym (rw z at e)) in
+        h .runs other .runs ∙ sym (k .runs other .runs)

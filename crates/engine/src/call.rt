@@ -1,7 +1,8 @@
 // The call for a run, which asks nothing.
 use crate::outcome::Outcome;
+use crate::outcome::refused;
+use crate::run::Span;
 use crate::run::run_accepted;
-use endings::ending::Ending;
 use machine::single::refusal;
 use state::settings::Settings;
 use state::state::State;
@@ -19,13 +20,11 @@ pub fn run(
 ) -> Outcome
     ensures { λ r. ⌜ Runs (now (file .entry)) settings state (now (memory .entry)) budget r (now (memory .exit)) ⌝ }
 {
-    let refused = refusal(file, settings, state, memory.len());
-    if refused != 0 {
-        return Outcome {
-            ending: Ending::Refused(refused),
-            state,
-            steps: 0,
-        };
+    let number = refusal(file, settings, state, memory.len());
+    if number != 0 {
+        return refused(number, state);
     }
-    run_accepted(file, settings, state, memory, budget)
+    let mut words = [0u16; 16];
+    let none = Span { first: 0, count: 0 };
+    run_accepted(file, none, &mut words, settings, state, memory, budget)
 }

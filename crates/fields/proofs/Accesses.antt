@@ -8,7 +8,7 @@ use borrow.Author.Tests.{eq-eqb, ne-eqb, eqb-false}
 use lib.Dec.{eqb}
 use Rattle.operations.specs.Decode.{writeBackOf}
 use Rattle.operations.specs.declared.operation.WriteBack.the-variants.{None as NoWriteBack, Register as ToRegister, Memory as ToMemory}
-use Rattle.operations.specs.declared.operation.Prefetch.the-variants.{None as NoPrefetch, Pointer, Sum}
+use Rattle.operations.specs.declared.operation.Prefetch.the-variants.{Pointer, Sum}
 use Rattle.state.specs.State.{register}
 use Rattle.state.specs.declared.settings.Settings.{Settings}
 use Rattle.effects.specs.Access.{accessAt, sumAddress, regionOf, circularFor, prefetchAccess, backAccess}

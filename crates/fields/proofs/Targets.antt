@@ -5,20 +5,14 @@ use mathlib.Core.List.{List}
 use native.Mathlib.Omega.{arith}
 use native.Mathlib.Nat.{add-zero}
 use lib.ListN.{getD}
-use Rattle.accumulator.specs.declared.mode.Target.{Target}
-use Rattle.accumulator.specs.declared.mode.Target.the-variants.{A, B}
-use Rattle.operations.specs.Encode.{targetByte, encodeOf}
+use Rattle.operations.specs.Encode.{encodeOf}
 use Rattle.operations.specs.declared.operation.Operation.{Operation}
 use Rattle.operations.specs.declared.operation.Operation.the-variants.{MacClass as MacOperation, AddAccumulators, Subtract, Negate, Shift, Lac, Add, Sac}
 use Rattle.operations.specs.declared.operation.Operation.the-variants.{SacR, Literal, Load, Store, Repeat, RepeatRegister, Do, DoRegister, EndEarly, SetMode}
 use Rattle.operations.specs.declared.operation.Operation.the-variants.{ClearSaturation}
 use Rattle.form.specs.Words.{wordsOfBytes, wordsFor, field, kindIn, codedAt}
 use Rattle.form.specs.Form.{Encoded}
-use Rattle.form.proofs.Fields.{encoded-field}
-
-target-small : (t : Target) → targetByte t < 2
-target-small A = omega arith
-target-small B = omega arith
+use Rattle.form.proofs.Fields.{encoded-field, target-small}
 
 words-target : (o : Operation) → getD (wordsFor o) 0 0 ≤ 15 → getD (wordsFor o) 1 0 < 2
 unfolding wordsFor wordsOfBytes encodeOf

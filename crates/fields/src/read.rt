@@ -41,16 +41,15 @@ pub fn read_at(region: Region, a: ByteAddress, memory: &[u16]) -> Read
     requires { ⌜ region .end .0 ≤ length (now memory) ⌝ }
     ensures { λ r. ⌜ ((w : List ℕ) (change : Change) → Reads r (accessAt region (a .0) change) w (now (memory .entry))) ⌝ }
 {
-    let none = trap(region, a);
-    if none != 0 {
-        return Read {
-            trap: none,
-            word: 0,
-        };
+    let i = a.aligned_word();
+    if region.has(i) {
+        let at = i.0;
+        let word = memory[at];
+        return Read { trap: 0, word };
     }
     Read {
-        trap: 0,
-        word: word_at(a, memory),
+        trap: trap(region, a),
+        word: 0,
     }
 }
 

@@ -1,7 +1,7 @@
 -- A listed operation is what its 16 words are, wherever they stand. Assumes nothing.
-use Prim.Native.Nat.{ℕ, _+_, _*_, _/_, _%_, _≤_, _<_}
-use mathlib.Core.Path.{_≡_, refl, sym, ap, _∙_}
-use mathlib.Core.Bool.{Bool, true, false, _&&_, _||_, not}
+use Prim.Native.Nat.{ℕ, _+_, _/_, _%_, _≤_, _<_}
+use mathlib.Core.Path.{_≡_, refl, _∙_}
+use mathlib.Core.Bool.{Bool, true, _&&_, _||_, not}
 use mathlib.Core.List.{List}
 use native.Mathlib.Omega.{arith}
 use native.Mathlib.Nat.{add-zero}
@@ -10,15 +10,8 @@ use lib.Dec.{eqb, leb, ltb}
 use lib.ListN.{getD, take, drop}
 use lib.Seq.{getD-take, getD-drop}
 use Rattle.integers.proofs.Whole.{both, by-test}
-use Rattle.accumulator.specs.declared.mode.Target.{Target}
-use Rattle.accumulator.specs.declared.mode.Target.the-variants.{A, B}
-use Rattle.accumulator.specs.Mode.{isGoodMode}
-use Rattle.operations.specs.declared.operation.Action.{Action}
-use Rattle.operations.specs.declared.operation.Action.the-variants.{Clr, Mpy, Mac, Msc, Ed, Edac, Movsac}
 use Rattle.operations.specs.declared.operation.Prefetch.{Prefetch}
 use Rattle.operations.specs.declared.operation.Prefetch.the-variants.{None as NoPrefetch, Pointer, Sum}
-use Rattle.operations.specs.declared.operation.WriteBack.{WriteBack}
-use Rattle.operations.specs.declared.operation.WriteBack.the-variants.{None as NoWriteBack, Register as ToRegister, Memory as ToMemory}
 use Rattle.operations.specs.declared.operation.PostModification.{PostModification}
 use Rattle.operations.specs.declared.operation.PostModification.the-variants.{None as Stays, Increment, Decrement}
 use Rattle.operations.specs.declared.operation.Operand.{Operand}
@@ -28,60 +21,18 @@ use Rattle.operations.specs.declared.operation.Operation.{Operation}
 use Rattle.operations.specs.declared.operation.Operation.the-variants.{MacClass as MacOperation, AddAccumulators, Subtract, Negate, Shift}
 use Rattle.operations.specs.declared.operation.Operation.the-variants.{Lac, Add, Sac, SacR, Literal, Load, Store, Repeat, RepeatRegister, Do}
 use Rattle.operations.specs.declared.operation.Operation.the-variants.{DoRegister, EndEarly, SetMode, ClearSaturation}
-use Rattle.operations.specs.Encode.{targetByte, nibbles, actionByte, prefetchByte, writeBackByte, macBytes, postByte, pointerByte, formByte, encodeOf}
-use Rattle.operations.specs.Listed.{isRegister, isCount, isWord, isFactor, areFactors, isPrefetch, reads, isDestination, areDestinations, isWriteBack, isListedMac, isListedOperand, isListed}
-use Rattle.operations.specs.Decode.{targetOf, actionOf, writeBackOf, postOf, operandOf}
-use Rattle.form.specs.Words.{wordsOfBytes, wordsFor, prefetchIn, macIn, codedAt}
+use Rattle.operations.specs.Encode.{actionByte, prefetchByte, macBytes, postByte, pointerByte, formByte, encodeOf}
+use Rattle.operations.specs.Listed.{isRegister, isFactor, areFactors, isPrefetch, reads, isDestination, areDestinations, isWriteBack, isListedMac, isListedOperand, isListed}
+use Rattle.operations.specs.Decode.{postOf, operandOf}
+use Rattle.operations.proofs.Operations.{target-again, action-again, action-kind, write-back-again, word-again, near, low-nibble, high-nibble}
+use Rattle.form.specs.Words.{wordsOfBytes, wordsFor, prefetchIn, codedAt}
 
 -- ---- each field from its words
-
-target-again : (t : Target) → targetOf (targetByte t) ≡ t
-target-again A = refl
-target-again B = refl
-
-action-again : (a : Action) → actionOf (actionByte a) ≡ a
-action-again Clr = refl
-action-again Mpy = refl
-action-again Mac = refl
-action-again Msc = refl
-action-again Ed = refl
-action-again Edac = refl
-action-again Movsac = refl
-
-action-kind : (a : Action) → leb (actionByte a) 7 ≡ true
-action-kind Clr = refl
-action-kind Mpy = refl
-action-kind Mac = refl
-action-kind Msc = refl
-action-kind Ed = refl
-action-kind Edac = refl
-action-kind Movsac = refl
-
-write-back-again : (w : WriteBack) → writeBackOf (writeBackByte w) ≡ w
-write-back-again NoWriteBack = refl
-write-back-again ToRegister = refl
-write-back-again ToMemory = refl
 
 post-again : (p : PostModification) → postOf (postByte p % 16) ≡ p
 post-again Stays = refl
 post-again Increment = refl
 post-again Decrement = refl
-
-word-again : (v : ℕ) → v % 256 + 256 * (v / 256) ≡ v
-word-again v = omega arith
-
-near : (r first : ℕ) → (eqb r first || eqb r (first + 1)) ≡ true → (first ≤ r) × (r ≤ first + 1)
-near r first e = go (eqb r first) refl e
-  where
-    go : (t : Bool) → eqb r first ≡ t → (t || eqb r (first + 1)) ≡ true → (first ≤ r) × (r ≤ first + 1)
-    go true d e = omega (arith, eqb-true r first d)
-    go false d e = omega (arith, eqb-true r (first + 1) e)
-
-low-nibble : (low high : ℕ) → low < 16 → nibbles low high % 16 ≡ low
-low-nibble low high h = omega arith
-
-high-nibble : (low high : ℕ) → high < 16 → nibbles low high / 16 ≡ high
-high-nibble low high h = omega arith
 
 low-same : (r : ℕ) → r < 16 → r % 16 ≡ r
 low-same r h = omega arith
@@ -245,5 +196,6 @@ placed code at =
       f 12 (omega arith),
     )
 
+-- every listed operation is the one read from 16 words that are those of its 8 bytes
 pub operation-again : (code : List ℕ) (at : ℕ) (o : Operation) → isListed o ≡ true → take 16 (drop at code) ≡ wordsFor o → codedAt code at ≡ o
 operation-again code at o e w = placed code at ∙ rw w (words-again o e)

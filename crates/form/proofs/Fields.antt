@@ -1,12 +1,12 @@
 -- The ranges of the words of an operation, from its being listed. Assumes nothing.
 use Prim.Native.Nat.{ℕ, _+_, _*_, _≤_, _<_}
 use mathlib.Core.Path.{_≡_, refl, sym, ap, _∙_}
-use mathlib.Core.Bool.{Bool, true, false, cond, _&&_, _||_, not}
+use mathlib.Core.Bool.{Bool, true, false, _&&_, _||_}
 use mathlib.Core.List.{List}
 use native.Mathlib.Omega.{arith}
-use borrow.Author.Tests.{le-leb, lt-leb, eqb-true}
-use lib.Dec.{eqb, leb}
-use lib.ListN.{length, getD, take, drop, length-take, length-drop}
+use borrow.Author.Tests.{le-leb, eqb-true}
+use lib.Dec.{eqb}
+use lib.ListN.{length, getD, drop, length-take, length-drop}
 use lib.Seq.{getD-take, getD-drop}
 use Rattle.integers.proofs.Whole.{both}
 use Rattle.accumulator.specs.declared.mode.Target.{Target}
@@ -17,9 +17,9 @@ use Rattle.operations.specs.Encode.{targetByte, actionByte, encodeOf}
 use Rattle.operations.specs.Decode.{actionOf}
 use Rattle.operations.specs.Listed.{isFactor, areFactors, isListed}
 use Rattle.form.specs.Words.{wordsOfBytes, wordsFor, field, kindIn, macIn, codedAt}
-use Rattle.form.specs.Form.{Holds, Encoded}
+use Rattle.form.specs.Form.{Encoded}
 use Rattle.form.proofs.Again.{factors-range, destinations-range, prefetch-range, listed-mac}
-use Rattle.form.proofs.Programs.{words-length, held-words, held-operation}
+use Rattle.form.proofs.Programs.{Holds, words-length, held-words, held-operation}
 
 -- an operation of a program that is held
 pub held-encoded : {code : List ℕ} {p : List Operation} → Holds code p → (i : ℕ) (d : Operation) → i < length p → isListed (getD p i d) ≡ true
@@ -41,7 +41,7 @@ pub mac-operation : (code : List ℕ) (at : ℕ) → kindIn code at ≤ 7 → co
 unfolding codedAt
 mac-operation code at l = rw (le-leb (kindIn code at) 7 l)
 
-target-small : (t : Target) → targetByte t < 2
+pub target-small : (t : Target) → targetByte t < 2
 target-small A = omega arith
 target-small B = omega arith
 

@@ -1,20 +1,20 @@
 -- A program's words: what they are operation by operation. Assumes nothing.
-use Prim.Native.Nat.{ℕ, zero, suc, _+_, _-_, _*_, _≤_, _<_}
+use Prim.Native.Nat.{ℕ, zero, suc, _+_, _-_, _*_, _<_}
 use mathlib.Core.Path.{_≡_, refl, sym, ap, _∙_}
 use mathlib.Core.Bool.{true}
 use mathlib.Core.List.{List, [], _∷_, _++_, append-assoc, append-nil}
 use native.Mathlib.Omega.{arith}
-use native.Mathlib.Nat.{mul-suc, not-suc-le-zero, le-of-suc-le-suc}
+use native.Mathlib.Nat.{not-suc-le-zero, le-of-suc-le-suc}
 use native.Mathlib.Numerals.{add-one}
 use mathlib.Core.Bool.{cond}
 use lib.ListN.{length, getD, take, drop, length-append}
-use lib.Seq.{take-append-le, drop-append-le, drop-append-add, take-at, drop-drop, take-take}
+use lib.Seq.{drop-append-add, take-at}
 use Rattle.operations.specs.Listed.{isListed}
 use Rattle.operations.specs.declared.operation.Operation.{Operation}
 use Rattle.program.specs.Bytes.{over}
 use Rattle.program.specs.Accept.{operationsRefusal, fieldsRefusal}
 use Rattle.program.specs.Answer.{firstOf}
-use Rattle.program.specs.File.{blocksRefusal, operationCount, fileRefusal, programOf}
+use Rattle.program.specs.File.{blocksRefusal, operationCount, fileRefusal}
 use Rattle.program.specs.Layout.{bytesOf, operationIn as operationInBytes, operationsIn}
 use Rattle.program.specs.Placement.{isPlaced}
 use Rattle.program.specs.declared.layout.Layout.the-variants.{Blocks}
@@ -23,7 +23,7 @@ use Rattle.program.proofs.Places.{operations-length}
 use Rattle.program.proofs.Slices.{part-in}
 use Rattle.operations.proofs.Operations.{taken-bytes}
 use Rattle.form.specs.Words.{wordsOfBytes, wordsFor, codedAt}
-use Rattle.form.specs.Form.{formOf, Holds}
+use Rattle.form.specs.Form.{formOf}
 use Rattle.form.proofs.Again.{operation-again}
 
 pub bytes-words-length : (b : List ℕ) → length (wordsOfBytes b) ≡ 16
@@ -51,6 +51,10 @@ form-nth (o ∷ p) (suc i) d l =
     let next : 16 * suc i ≡ length (wordsFor o) + 16 * i = omega (arith, words-length o) in
     rw (next, drop-append-add (wordsFor o) (formOf p) (16 * i)) (form-nth p i d (le-of-suc-le-suc l))
 
+-- the first 16 words for each operation are the program's
+pub record Holds (code : List ℕ) (p : List Operation) : Type 0 where
+  pub words : take (16 * length p) code ≡ formOf p
+
 module _ {code : List ℕ} {p : List Operation} (holds : Holds code p) (i : ℕ) (d : Operation) (l : i < length p) where
   pub held-words : take 16 (drop (16 * i) code) ≡ wordsFor (getD p i d)
   held-words =
@@ -72,7 +76,7 @@ module _ (file : List ℕ) (accepted : fileRefusal file ≡ 0) where
   pub first-length : (i : ℕ) → length (formOf (operationsIn Blocks file i)) ≡ 16 * i
   first-length i = form-length (operationsIn Blocks file i) ∙ rw (operations-length Blocks file i)
 
-  bytes-again : (i : ℕ) → i < operationCount file → wordsFor (operationInBytes Blocks file i) ≡ wordsOfBytes (bytesOf Blocks file i)
+  pub bytes-again : (i : ℕ) → i < operationCount file → wordsFor (operationInBytes Blocks file i) ≡ wordsOfBytes (bytesOf Blocks file i)
   unfolding fileRefusal operationsRefusal wordsFor
   bytes-again i l =
       let n : ℕ = operationCount file in

@@ -2,11 +2,12 @@
 use loader::file::operation_count;
 ghost use mathlib.Core.Path.{_≡_};
 ghost use mathlib.Core.List.{[], _∷_};
-ghost use Prim.Native.Nat.{_+_, _*_, _≤_};
-ghost use lib.ListN.{length, take, drop};
+ghost use Prim.Native.Nat.{_+_, _*_, _<_, _≤_};
+ghost use lib.ListN.{length, getD, take, drop};
 ghost use Rattle.program.specs.Bytes.{over};
 ghost use Rattle.program.specs.File.{fileRefusal, operationCount, programOf};
-ghost use Rattle.form.specs.Words.{wordsOfBytes};
+ghost use Rattle.operations.specs.declared.operation.Operation.{Operation};
+ghost use Rattle.form.specs.Words.{wordsOfBytes, wordsFor};
 ghost use Rattle.form.specs.Form.{formOf};
 
 // The words of an operation's bytes at the start of `to`; the rest of `to` stays.
@@ -50,6 +51,17 @@ fn put_operation(file: &[u8], at: usize, to: &mut [u16])
     );
 }
 
+// The words of operation i of an accepted file at the start of `to`; the rest of `to` stays.
+pub fn decode_operation(file: &[u8], i: usize, to: &mut [u16])
+    requires { ⌜ fileRefusal (now file) ≡ 0 ⌝ }
+    requires { ⌜ i < operationCount (now file) ⌝ }
+    requires { ⌜ 16 ≤ length (now to) ⌝ }
+    ensures { λ _. ⌜ ((other : Operation) → now (to .exit) ≡ over (wordsFor (getD (programOf (now (file .entry))) i other)) (now (to .entry))) ⌝ }
+{
+    let at = 512 * (i / 63) + 8 + 8 * (i % 63);
+    put_operation(file, at, to);
+}
+
 // The words of all operations of an accepted file at the start of `to`; the rest of `to` stays.
 pub fn decode_program(file: &[u8], to: &mut [u16])
     requires { ⌜ fileRefusal (now file) ≡ 0 ⌝ }
@@ -59,9 +71,8 @@ pub fn decode_program(file: &[u8], to: &mut [u16])
     let n = operation_count(file);
     let mut i = 0;
     while i < n {
-        let at = 512 * (i / 63) + 8 + 8 * (i % 63);
         let from = 16 * i;
-        put_operation(file, at, &mut to[from..]);
+        decode_operation(file, i, &mut to[from..]);
         i += 1;
     }
 }

@@ -1,4 +1,4 @@
--- A run by its steps: what the loop of `run_accepted` keeps, and how it ends. Assumes nothing.
+-- A run by its steps: what the loops of `step_on` and `repeat_on` keep, and how they end. Assumes nothing.
 use Prim.Native.Nat.{ℕ, suc, _+_, _-_, _≤_, _<_}
 use mathlib.Core.Bool.{true, false, true≢false}
 use mathlib.Core.List.{List}
@@ -14,13 +14,12 @@ use Rattle.operations.specs.Listed.{isListed}
 use Rattle.operations.specs.declared.operation.Operation.{Operation}
 use Rattle.program.specs.Placement.{isPlaced}
 use Rattle.state.specs.declared.settings.Settings.{Settings}
-use Rattle.state.specs.declared.state.State.{State}
 use Rattle.effects.specs.Operations.{workOf}
 use Rattle.machine.specs.Step.{Step, operationAt, uncounted, completed, stepped}
 use Rattle.endings.specs.declared.ending.Ending.the-variants.{Done, Spent, Trap}
 use Rattle.runs.specs.Run.{Result, run}
 use Rattle.runs.specs.Run.Stop.{ended}
-use Rattle.runs.specs.Engine.{Engine, engineTurn, engineDone, engineFrom, engineRun}
+use Rattle.runs.specs.Engine.{Engine, engineTurn, engineDone, engineFrom}
 use Rattle.legs.proofs.Runs.{run-done}
 use Rattle.legs.proofs.Fits.{Fit, stepped-fits}
 
@@ -48,19 +47,6 @@ pub record Along (p : List Operation) (settings : Settings) (budget words : ℕ)
   pub fit : Fit p words x
   pub within : steps ≤ budget
   pub same : engineFrom p settings (budget - steps) steps x ≡ y
-
--- it goes on from the start
-pub begins : (p : List Operation) (settings : Settings) (budget : ℕ) (s : State) (memory : List ℕ)
-    → Fit p (length memory) (record { state = s; memory = memory }) → Along p settings budget (length memory) (engineRun p settings budget s memory) (record { state = s; memory = memory }) 0
-unfolding engineRun
-begins p settings budget s memory h =
-    let whole : budget - 0 ≡ budget = omega arith in
-    record { fit = h; within = omega arith; same = rw whole }
-
--- the run from a state that the code has put together of its pieces is the run from the given one
-pub from-given : (p : List Operation) (settings : Settings) (budget : ℕ) (memory : List ℕ) {s₀ s : State} {y : Result Engine} → s₀ ≡ s
-    → y ≡ engineRun p settings budget s₀ memory → y ≡ engineRun p settings budget s memory
-from-given p settings budget memory e h = h ∙ ap (λ (z : State). engineRun p settings budget z memory) e
 
 module _ {p : List Operation} {settings : Settings} {budget words : ℕ} {y : Result Engine} {x : Engine} {steps : ℕ}
     (h : Along p settings budget words y x steps) where

@@ -13,12 +13,12 @@ use lib.ListN.{length, getD}
 use Rattle.integers.proofs.Whole.{neither, never}
 use Rattle.operations.specs.declared.operation.Operation.{Operation}
 use Rattle.program.specs.Placement.{roleAt, lastOf}
+use Rattle.state.specs.Accept.{stateRefusal}
 use Rattle.state.specs.Typed.{Typed, AreWords}
 use Rattle.state.specs.declared.settings.Settings.{Settings}
 use Rattle.state.specs.declared.state.State.{State}
-use Rattle.machine.specs.Lent.{Ready}
 use Rattle.machine.specs.Step.{Step, operationAt}
-use Rattle.machine.proofs.Stands.{Stands, accepted-stands, stands-accepted, stands-ready}
+use Rattle.machine.proofs.Stands.{Stands, accepted-stands, stands-accepted, slots-known}
 use Rattle.form.specs.Form.{Encoded}
 use Rattle.fields.specs.Carried.{Accumulators}
 use Rattle.sequencer.specs.Lent.{Twos}
@@ -29,7 +29,8 @@ use Rattle.stepping.specs.Turned.{Held, turnIn, Turns}
 use Rattle.stepping.specs.declared.step.Turn.{Turn}
 use Rattle.runs.specs.Run.Stop.{ended}
 use Rattle.runs.specs.Engine.{Engine, engineFrom, engineRun}
-use Rattle.legs.specs.Leg.{Window, engineIn, Stood, restOf, isOnward, Goes, endingOf, Runnable}
+use Rattle.endings.specs.declared.ending.Ending.the-variants.{Done}
+use Rattle.legs.specs.Leg.{Window, engineIn, Stood, restOf, isElsewhere, isOnward, Goes, endingOf}
 use Rattle.legs.specs.declared.leg.Pause.{Pause}
 use Rattle.legs.specs.declared.leg.Pause.the-variants.{Elsewhere, OutOfSteps, Trapped, Onward}
 use Rattle.legs.proofs.Fits.{Fit, stepped-fits}
@@ -53,33 +54,33 @@ module _ {p : List Operation} {settings : Settings} {h : Held} {f : Flow} where
   stood-stands s = accepted-stands p (engineIn h f .state) (s .typed) (s .accepted)
 
   fit-stood : {words : ℕ} → Fit p words (engineIn h f) → settings .xwords ≤ words → Lasts p (h .starts) (h .lasts) (f .depth)
-      → Twos (h .acc) (h .over) (h .sat) → Stood p settings h f
-  fit-stood fit part kept pairs =
+      → Twos (h .acc) (h .oflags) (h .sflags) → Stood p settings h f
+  fit-stood fit part lasts twos =
       let four = fit .stands .nested .four in
       record {
         typed = record { registers = fit .stands .registers; words = fit .stands .words; starts = four .0; passes = four .1 };
         accepted = stands-accepted p (engineIn h f .state) (fit .stands);
         ram = fit .ram;
         part = rw (fit .long) part;
-        kept = kept;
-        pairs = pairs;
+        lasts = lasts;
+        twos = twos;
       }
 
--- what goes on has all of its run left
-onward-rest : (pause : Pause) (p : List Operation) (settings : Settings) (budget steps : ℕ) (x : Engine) → isOnward pause ≡ true
+-- what goes on, with another leg or elsewhere, has all of its run left
+rest-left : (pause : Pause) (p : List Operation) (settings : Settings) (budget steps : ℕ) (x : Engine) → (isOnward pause || isElsewhere pause) ≡ true
     → restOf pause p settings budget steps x ≡ engineFrom p settings (budget - steps) steps x
-onward-rest Elsewhere p settings budget steps x e = never e
-onward-rest OutOfSteps p settings budget steps x e = never e
-onward-rest (Trapped n) p settings budget steps x e = never e
-onward-rest Onward p settings budget steps x e = refl
+rest-left Elsewhere p settings budget steps x e = refl
+rest-left OutOfSteps p settings budget steps x e = never e
+rest-left (Trapped n) p settings budget steps x e = never e
+rest-left Onward p settings budget steps x e = refl
 
 -- with so many steps made the run from h₀, f₀ goes on from h, f
 pub record Way (p : List Operation) (settings : Settings) (budget : ℕ) (h₀ : Held) (f₀ : Flow) (steps₀ : ℕ) (h : Held) (f : Flow) (made : ℕ) : Type 0 where
   pub along : Along p settings budget (length (h₀ .memory)) (engineFrom p settings (budget - steps₀) steps₀ (engineIn h₀ f₀)) (engineIn h f) made
   pub part : settings .xwords ≤ length (h₀ .memory)
-  pub kept : Lasts p (h .starts) (h .lasts) (f .depth)
-  pub pairs : Twos (h .acc) (h .over) (h .sat)
-  pub onward : steps₀ ≤ made
+  pub lasts : Lasts p (h .starts) (h .lasts) (f .depth)
+  pub twos : Twos (h .acc) (h .oflags) (h .sflags)
+  pub forward : steps₀ ≤ made
   pub still : made ≡ steps₀ → f .pc ≡ f₀ .pc
 
 -- it begins
@@ -89,9 +90,9 @@ way-begins p settings budget h f steps l s =
     record {
       along = record { fit = record { stands = stood-stands s; ram = s .ram; long = refl }; within = l; same = refl };
       part = s .part;
-      kept = s .kept;
-      pairs = s .pairs;
-      onward = omega arith;
+      lasts = s .lasts;
+      twos = s .twos;
+      forward = omega arith;
       still = λ e. refl;
     }
 
@@ -99,7 +100,7 @@ module _ {p : List Operation} {settings : Settings} {budget : ℕ} {h₀ : Held}
     (way : Way p settings budget h₀ f₀ steps₀ h f made) where
   -- what stands now
   pub way-stood : Stood p settings h f
-  way-stood = fit-stood (way .along .fit) (way .part) (way .kept) (way .pairs)
+  way-stood = fit-stood (way .along .fit) (way .part) (way .lasts) (way .twos)
 
   -- the run goes on from here: the operation at pc is outside the window
   pub goes-elsewhere : (first count : ℕ) → (first ≤ f .pc → f .pc < first + count → ⊥) → Goes p settings first count budget h₀ f₀ steps₀ h f made Elsewhere
@@ -109,7 +110,7 @@ module _ {p : List Operation} {settings : Settings} {budget : ℕ} {h₀ : Held}
         within = way .along .within;
         stood = way-stood;
         long = way .along .fit .long;
-        onward = way .onward;
+        forward = way .forward;
         still = way .still;
         out = λ e. outside;
         more = λ e. never e;
@@ -123,7 +124,7 @@ module _ {p : List Operation} {settings : Settings} {budget : ℕ} {h₀ : Held}
         within = way .along .within;
         stood = way-stood;
         long = way .along .fit .long;
-        onward = way .onward;
+        forward = way .forward;
         still = way .still;
         out = λ e. never e;
         more = λ e. l;
@@ -133,37 +134,62 @@ module _ {p : List Operation} {settings : Settings} {budget : ℕ} {h₀ : Held}
   module _ {first count : ℕ} {h′ : Held} {f′ : Flow} {steps′ : ℕ} where
     stays-still : {pause : Pause} → Goes p settings first count budget h f made h′ f′ steps′ pause → steps′ ≡ steps₀ → f′ .pc ≡ f₀ .pc
     stays-still leg e =
-        let k : steps₀ ≤ made = way .onward in
-        let l : made ≤ steps′ = leg .onward in
+        let k : steps₀ ≤ made = way .forward in
+        let l : made ≤ steps′ = leg .forward in
         leg .still (omega arith) ∙ way .still (omega arith)
 
     pub goes-along : {pause : Pause} → Goes p settings first count budget h f made h′ f′ steps′ pause → Goes p settings first count budget h₀ f₀ steps₀ h′ f′ steps′ pause
     goes-along {pause} leg =
-        let k : steps₀ ≤ made = way .onward in
-        let l : made ≤ steps′ = leg .onward in
+        let k : steps₀ ≤ made = way .forward in
+        let l : made ≤ steps′ = leg .forward in
         record {
           rest = leg .rest ∙ way .along .same;
           within = leg .within;
           stood = leg .stood;
           long = leg .long ∙ way .along .fit .long;
-          onward = omega arith;
+          forward = omega arith;
           still = stays-still leg;
           out = leg .out;
           more = λ e. let m : made < steps′ = leg .more e in omega arith;
         }
 
-    pub way-along : {pause : Pause} → isOnward pause ≡ true → Goes p settings first count budget h f made h′ f′ steps′ pause
+    pub way-along : {pause : Pause} → Goes p settings first count budget h f made h′ f′ steps′ pause → (isOnward pause || isElsewhere pause) ≡ true
         → Way p settings budget h₀ f₀ steps₀ h′ f′ steps′
-    way-along {pause} e leg =
+    way-along {pause} leg e =
         let all = goes-along leg in
         record {
-          along = record { fit = record { stands = stood-stands (leg .stood); ram = leg .stood .ram; long = all .long }; within = leg .within; same = sym (onward-rest pause p settings budget steps′ (engineIn h′ f′) e) ∙ all .rest };
+          along = record { fit = record { stands = stood-stands (leg .stood); ram = leg .stood .ram; long = all .long }; within = leg .within; same = sym (rest-left pause p settings budget steps′ (engineIn h′ f′) e) ∙ all .rest };
           part = way .part;
-          kept = leg .stood .kept;
-          pairs = leg .stood .pairs;
-          onward = all .onward;
+          lasts = leg .stood .lasts;
+          twos = leg .stood .twos;
+          forward = all .forward;
           still = all .still;
         }
+
+    -- or none: the run ends
+    pub goes-ended : (pause : Pause) → (isOnward pause || isElsewhere pause) ≡ false → Goes p settings first count budget h f made h′ f′ steps′ pause
+        → record { machine = engineIn h′ f′; steps = steps′; stop = ended (endingOf pause) } ≡ engineFrom p settings (budget - steps₀) steps₀ (engineIn h₀ f₀)
+    goes-ended Elsewhere e leg = never (sym e)
+    goes-ended OutOfSteps e leg = goes-along leg .rest
+    goes-ended (Trapped n) e leg = goes-along leg .rest
+    goes-ended Onward e leg = never (sym e)
+
+    -- a leg from inside the window to its outside has made a step
+    pub elsewhere-more : {pause : Pause} → isElsewhere pause ≡ true → first ≤ f .pc → f .pc < first + count
+        → Goes p settings first count budget h f made h′ f′ steps′ pause → made < steps′
+    elsewhere-more e low high leg =
+        elim (decLe steps′ made) [
+          | yes k ↦
+              let same : steps′ ≡ made = let l : made ≤ steps′ = leg .forward in omega arith in
+              let here : f′ .pc ≡ f .pc = leg .still same in
+              absurd (leg .out e (rw here low) (rw here high))
+          | no k ↦ lt-of-not-le k
+        ]
+
+  -- done: pc is the count of operations
+  pub way-done : f .pc ≡ length p
+      → record { machine = engineIn h f; steps = made; stop = ended Done } ≡ engineFrom p settings (budget - steps₀) steps₀ (engineIn h₀ f₀)
+  way-done e = ends-done (way .along) e
 
   -- there is an operation at pc, in the window
   module _ {code : List ℕ} {first count : ℕ} (window : Window p code first count) (low : first ≤ f .pc) (high : f .pc < first + count) where
@@ -184,20 +210,19 @@ module _ {p : List Operation} {settings : Settings} {budget : ℕ} {h₀ : Held}
     encoded = window .words (f .pc - first) placed-at
 
     pub follows : Follows p code (16 * (f .pc - first)) f (h .starts) (h .lasts)
-    follows = record { here = ap (operationAt p) (sym back-again) ∙ window .same (f .pc - first) placed-at; lasts = way .kept }
-
-    ready : Ready (length p) (f .pc) (f .depth) (h .starts)
-    ready = stands-ready p (engineIn h f .state .core) (way .along .fit .stands) below
+    follows = record { here = ap (operationAt p) (sym back-again) ∙ window .same (f .pc - first) placed-at; lasts = way .lasts }
 
     pub standing : Standing f (h .starts) (h .lasts)
     standing =
         let most : length p ≤ 4032 = window .most in
         let at : f .pc < length p = below in
+        let stands = way .along .fit .stands in
+        let known = slots-known p (engineIn h f .state .core) stands below in
         record {
           at = omega arith;
-          few = ready .few;
-          known = λ i l. let k : getD (h .starts) i 0 < length p = ready .known i l in omega arith;
-          outer = lasts-outer p (h .starts) (h .lasts) (f .depth) (way .kept);
+          few = stands .nested .few;
+          known = λ i l. let k : getD (h .starts) i 0 < length p = known i l in omega arith;
+          outer = lasts-outer p (h .starts) (h .lasts) (f .depth) (way .lasts);
         }
 
     pub accumulators : Accumulators (h .acc)
@@ -211,7 +236,7 @@ module _ {p : List Operation} {settings : Settings} {budget : ℕ} {h₀ : Held}
           within = way .along .within;
           stood = way-stood;
           long = way .along .fit .long;
-          onward = way .onward;
+          forward = way .forward;
           still = way .still;
           out = λ e. never e;
           more = λ e. never e;
@@ -226,7 +251,7 @@ module _ {p : List Operation} {settings : Settings} {budget : ℕ} {h₀ : Held}
           (stepped-fits p (window .placed) (window .listed) settings (length (h₀ .memory)) (engineIn h f) below (way .along .fit))
 
       turned-stood : Stood p settings h′ (r .flow)
-      turned-stood = fit-stood turned-fits (way .part) (turns .lasts) (turns .pairs)
+      turned-stood = fit-stood turned-fits (way .part) (turns .lasts) (turns .twos)
 
       -- pc stays where it does not count
       stays : r .counted ≡ false → r .flow .pc ≡ f .pc
@@ -240,7 +265,7 @@ module _ {p : List Operation} {settings : Settings} {budget : ℕ} {h₀ : Held}
             within = way .along .within;
             stood = turned-stood;
             long = turned-fits .long;
-            onward = way .onward;
+            forward = way .forward;
             still = λ e. stays c ∙ way .still e;
             out = λ e. never e;
             more = λ e. never e;
@@ -249,14 +274,14 @@ module _ {p : List Operation} {settings : Settings} {budget : ℕ} {h₀ : Held}
       -- counts, and has a trap
       pub goes-last : r .counted ≡ true → (r .trap ≡ 0 → ⊥) → Goes p settings first count budget h₀ f₀ steps₀ h′ (r .flow) (made + 1) (Trapped (r .trap))
       goes-last c z =
-          let k : steps₀ ≤ made = way .onward in
+          let k : steps₀ ≤ made = way .forward in
           let l : made ≤ budget = way .along .within in
           record {
             rest = ends-last (way .along) undone left (turnIn h′ r) (turns .step) c z;
             within = omega arith;
             stood = turned-stood;
             long = turned-fits .long;
-            onward = omega arith;
+            forward = omega arith;
             still = λ e. absurd (omega arith);
             out = λ e. never e;
             more = λ e. never e;
@@ -269,10 +294,10 @@ module _ {p : List Operation} {settings : Settings} {budget : ℕ} {h₀ : Held}
           record {
             along = on;
             part = way .part;
-            kept = turns .lasts;
-            pairs = turns .pairs;
-            onward = let k : steps₀ ≤ made = way .onward in omega arith;
-            still = λ e. let k : steps₀ ≤ made = way .onward in absurd (omega arith);
+            lasts = turns .lasts;
+            twos = turns .twos;
+            forward = let k : steps₀ ≤ made = way .forward in omega arith;
+            still = λ e. let k : steps₀ ≤ made = way .forward in absurd (omega arith);
           }
 
 -- ---- a whole run
@@ -294,14 +319,18 @@ lasts-kept p starts depth a b c d slots few ha hb hc hd = record { each = go; sl
     go (suc (suc (suc (suc zero)))) l = hd (omega arith)
     go (suc (suc (suc (suc (suc n))))) l = absurd (omega arith)
 
+-- before any step all of the budget is left
+pub all-left : (p : List Operation) (settings : Settings) (budget : ℕ) (x : Engine) → engineFrom p settings (budget - 0) 0 x ≡ engineFrom p settings budget 0 x
+all-left p settings budget x = let all : budget - 0 ≡ budget = omega arith in ap (λ (n : ℕ). engineFrom p settings n 0 x) all
+
 -- a state taken apart
 abbrev pub heldOf : State → List ℤ → List ℕ → List ℕ → Held
 heldOf s acc lasts memory =
     record {
       w = s .core .w;
       acc = acc;
-      over = s .core .oa ∷ s .core .ob ∷ [];
-      sat = s .sa ∷ s .sb ∷ [];
+      oflags = s .core .oa ∷ s .core .ob ∷ [];
+      sflags = s .sa ∷ s .sb ∷ [];
       starts = s .core .loops .starts;
       passes = s .core .loops .passes;
       lasts = lasts;
@@ -311,51 +340,22 @@ heldOf s acc lasts memory =
 abbrev pub flowOf : State → Flow
 flowOf s = record { pc = s .core .pc; depth = s .core .loops .depth; repeat = s .core .repeat; mode = s .core .mode }
 
-module _ {p : List Operation} {code : List ℕ} {count : ℕ} {lasts : List ℕ} {settings : Settings} {s : State} {memory : List ℕ}
-    (given : Runnable p code count lasts settings s (length memory)) {acc : List ℤ} (sums : acc ≡ s .core .a ∷ s .core .b ∷ []) where
+module _ (p : List Operation) (settings : Settings) (s : State) (lasts memory : List ℕ) {acc : List ℤ} (sums : acc ≡ s .core .a ∷ s .core .b ∷ []) where
   -- stands
-  pub given-stood : Typed (s .core) → AreWords memory → Stood p settings (heldOf s acc lasts memory) (flowOf s)
-  given-stood typed ram =
+  pub state-stood : Typed (s .core) → stateRefusal p s ≡ 0 → AreWords memory → settings .xwords ≤ length memory
+      → Lasts p (s .core .loops .starts) lasts (s .core .loops .depth) → Stood p settings (heldOf s acc lasts memory) (flowOf s)
+  state-stood typed accepted ram part known =
       subst (λ (z : List ℤ). Stood p settings (heldOf s z lasts memory) (flowOf s)) (sym sums)
       (record {
         typed = typed;
-        accepted = given .accepted;
+        accepted = accepted;
         ram = ram;
-        part = given .part;
-        kept = given .kept;
-        pairs = record { values = refl; overflows = refl; saturations = refl };
+        part = part;
+        lasts = known;
+        twos = record { values = refl; overflows = refl; saturations = refl };
       })
 
-  -- is the state
-  given-same : engineIn (heldOf s acc lasts memory) (flowOf s) ≡ record { state = s; memory = memory }
-  given-same = ap (λ (z : List ℤ). engineIn (heldOf s z lasts memory) (flowOf s)) sums
-
-  -- its legs end as the run does
-  ends-as : (budget : ℕ) (h : Held) (f : Flow) (steps : ℕ) (pause : Pause) → isOnward pause ≡ false
-      → Goes p settings 0 count budget (heldOf s acc lasts memory) (flowOf s) 0 h f steps pause
-      → record { machine = engineIn h f; steps = steps; stop = ended (endingOf pause) } ≡ engineFrom p settings (budget - 0) 0 (engineIn (heldOf s acc lasts memory) (flowOf s))
-  ends-as budget h f steps Elsewhere e goes =
-      let stood = goes .stood in
-      let most : f .pc ≤ length p = stood-stands stood .at in
-      let whole : length p ≡ count = given .whole in
-      let done : f .pc ≡ length p =
-      elim (decLe count (f .pc)) [
-        | yes k ↦ omega arith
-        | no k ↦ let small : f .pc < count = lt-of-not-le k in absurd (goes .out refl (omega arith) (omega arith))
-      ] in
-      ends-done
-      (record { fit = record { stands = stood-stands stood; ram = stood .ram; long = goes .long }; within = goes .within; same = goes .rest })
-      done
-  ends-as budget h f steps OutOfSteps e goes = goes .rest
-  ends-as budget h f steps (Trapped n) e goes = goes .rest
-  ends-as budget h f steps Onward e goes = never (sym e)
-
-  -- what its legs come to is the run
-  pub given-runs : (budget : ℕ) (h : Held) (f : Flow) (steps : ℕ) (pause : Pause) → isOnward pause ≡ false
-      → Goes p settings 0 count budget (heldOf s acc lasts memory) (flowOf s) 0 h f steps pause
-      → record { machine = engineIn h f; steps = steps; stop = ended (endingOf pause) } ≡ engineRun p settings budget s memory
+  -- and its run is the state's
+  pub state-runs : (budget : ℕ) → engineFrom p settings budget 0 (engineIn (heldOf s acc lasts memory) (flowOf s)) ≡ engineRun p settings budget s memory
   unfolding engineRun
-  given-runs budget h f steps pause e goes =
-      let all : budget - 0 ≡ budget = omega arith in
-      ends-as budget h f steps pause e goes
-      ∙ (ap (λ (x : Engine). engineFrom p settings (budget - 0) 0 x) given-same ∙ ap (λ (n : ℕ). engineFrom p settings n 0 (record { state = s; memory = memory })) all)
+  state-runs budget = ap (λ (z : List ℤ). engineFrom p settings budget 0 (engineIn (heldOf s z lasts memory) (flowOf s))) sums

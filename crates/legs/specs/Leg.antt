@@ -1,5 +1,5 @@
--- A leg of a run: the steps over a window of the program's words, up to a trap, the budget's end, an operation outside the window, REPEAT or a new mode
--- word.
+-- A leg of a run: the steps over a window of the program's words, up to a trap, the budget's end, an operation outside the window, REPEAT, a new mode
+-- word or the last repetition but one of a pair.
 use Prim.Native.Nat.{ℕ, _+_, _-_, _*_, _≤_, _<_}
 use mathlib.Core.Bool.{Bool, true, false}
 use mathlib.Core.List.{List}
@@ -11,7 +11,6 @@ use Rattle.program.specs.Placement.{isPlaced}
 use Rattle.state.specs.Typed.{Typed, AreWords}
 use Rattle.state.specs.Accept.{stateRefusal}
 use Rattle.state.specs.declared.settings.Settings.{Settings}
-use Rattle.state.specs.declared.state.State.{State}
 use Rattle.machine.specs.Step.{operationAt}
 use Rattle.form.specs.Words.{codedAt}
 use Rattle.form.specs.Form.{Encoded}
@@ -41,7 +40,7 @@ pub record Window (p : List Operation) (code : List ℕ) (first count : ℕ) : T
 -- the engine of what the code is lent and handed
 abbrev pub engineIn : Held → Flow → Engine
 engineIn h f =
-    record { state = lentState (h .w) (h .acc) (h .over) (h .sat) (h .starts) (h .passes) f; memory = h .memory }
+    record { state = lentState (h .w) (h .acc) (h .oflags) (h .sflags) (h .starts) (h .passes) f; memory = h .memory }
 
 -- p accepts its state; its memory is of words and has room for the X part; the last operations kept are p's; arrays have their lengths
 pub record Stood (p : List Operation) (settings : Settings) (h : Held) (f : Flow) : Type 0 where
@@ -49,10 +48,10 @@ pub record Stood (p : List Operation) (settings : Settings) (h : Held) (f : Flow
   pub accepted : stateRefusal p (engineIn h f .state) ≡ 0
   pub ram : AreWords (h .memory)
   pub part : settings .xwords ≤ length (h .memory)
-  pub kept : Lasts p (h .starts) (h .lasts) (f .depth)
-  pub pairs : Twos (h .acc) (h .over) (h .sat)
+  pub lasts : Lasts p (h .starts) (h .lasts) (f .depth)
+  pub twos : Twos (h .acc) (h .oflags) (h .sflags)
 
--- there is such a program
+-- some program has this window and accepts this state
 pub record Known (code : List ℕ) (first count : ℕ) (settings : Settings) (h : Held) (f : Flow) : Type 0 where
   pub program : List Operation
   pub window : Window program code first count
@@ -87,15 +86,15 @@ pub record Goes (p : List Operation) (settings : Settings) (first count budget :
   pub within : steps' ≤ budget
   pub stood : Stood p settings h' f'
   pub long : length (h' .memory) ≡ length (h .memory)
-  pub onward : steps ≤ steps'
-  -- no step leaves pc
+  pub forward : steps ≤ steps'
+  -- where no step is made pc stays
   pub still : steps' ≡ steps → f' .pc ≡ f .pc
   -- pc is outside the window
   pub out : isElsewhere pause ≡ true → first ≤ f' .pc → f' .pc < first + count → ⊥
   -- a leg that goes on has made a step
   pub more : isOnward pause ≡ true → steps < steps'
 
--- ---- a whole run over a program's words
+-- ---- how a run ends
 
 -- an ending by the last leg's pause; a run never ends with a leg that goes on
 abbrev pub endingOf : Pause → Ending
@@ -103,16 +102,3 @@ endingOf Elsewhere = Done
 endingOf OutOfSteps = Spent
 endingOf (Trapped n) = Trap n
 endingOf Onward = Done
-
--- the words are those of all operations of p, p accepts the state, and the last operations kept are p's
-pub record Runnable (p : List Operation) (code : List ℕ) (count : ℕ) (lasts : List ℕ) (settings : Settings) (s : State) (words : ℕ) : Type 0 where
-  pub window : Window p code 0 count
-  pub whole : length p ≡ count
-  pub accepted : stateRefusal p s ≡ 0
-  pub part : settings .xwords ≤ words
-  pub kept : Lasts p (s .core .loops .starts) lasts (s .core .loops .depth)
-
--- there is such a program
-pub record Given (code : List ℕ) (count : ℕ) (lasts : List ℕ) (settings : Settings) (s : State) (words : ℕ) : Type 0 where
-  pub program : List Operation
-  pub runnable : Runnable program code count lasts settings s words

@@ -14,7 +14,8 @@ ghost use Rattle.products.specs.Fetched.{isPair};
 ghost use Rattle.sequencer.specs.Settled.{limitsFor};
 ghost use Rattle.legs.specs.Leg.{Window, Stood, Known, Goes, isOnward};
 
-// Why a leg ends: the operation at pc is outside the window; the budget's steps are made; a trap, its number; REPEAT or a new mode word.
+// Why a leg ends: the operation at pc is outside the window; the budget's steps are made; a trap, its number; or the run goes on with another leg, after
+// REPEAT, after a new mode word, after the repetitions of a pair.
 pub enum Pause {
     Elsewhere,
     OutOfSteps,
@@ -47,18 +48,18 @@ fn step_on(
     steps: u32,
     budget: u32,
     acc: &mut [i64; 2],
-    over: &mut [bool; 2],
-    sat: &mut [bool; 2],
+    oflags: &mut [bool; 2],
+    sflags: &mut [bool; 2],
     w: &mut [u16; 14],
     lasts: &mut [usize; 5],
     starts: &mut [usize; 4],
     passes: &mut [u32; 4],
     memory: &mut [u16],
 ) -> Leg
-    requires { ⌜ Known (now code) first count settings (record { w = now w; acc = now acc; over = now over; sat = now sat; starts = now starts; passes = now passes; lasts = now lasts; memory = now memory }) flow ⌝ }
+    requires { ⌜ Known (now code) first count settings (record { w = now w; acc = now acc; oflags = now oflags; sflags = now sflags; starts = now starts; passes = now passes; lasts = now lasts; memory = now memory }) flow ⌝ }
     requires { ⌜ limits ≡ limitsFor (settings .traps) (flow .mode) ⌝ }
     requires { ⌜ steps ≤ budget ⌝ }
-    ensures { λ r. ⌜ ((p : List Operation) → Window p (now (code .entry)) first count → Stood p settings (record { w = now (w .entry); acc = now (acc .entry); over = now (over .entry); sat = now (sat .entry); starts = now (starts .entry); passes = now (passes .entry); lasts = now (lasts .entry); memory = now (memory .entry) }) flow → Goes p settings first count budget (record { w = now (w .entry); acc = now (acc .entry); over = now (over .entry); sat = now (sat .entry); starts = now (starts .entry); passes = now (passes .entry); lasts = now (lasts .entry); memory = now (memory .entry) }) flow steps (record { w = now (w .exit); acc = now (acc .exit); over = now (over .exit); sat = now (sat .exit); starts = now (starts .exit); passes = now (passes .exit); lasts = now (lasts .exit); memory = now (memory .exit) }) (r .flow) (r .steps) (r .pause)) ⌝ }
+    ensures { λ r. ⌜ ((p : List Operation) → Window p (now (code .entry)) first count → Stood p settings (record { w = now (w .entry); acc = now (acc .entry); oflags = now (oflags .entry); sflags = now (sflags .entry); starts = now (starts .entry); passes = now (passes .entry); lasts = now (lasts .entry); memory = now (memory .entry) }) flow → Goes p settings first count budget (record { w = now (w .entry); acc = now (acc .entry); oflags = now (oflags .entry); sflags = now (sflags .entry); starts = now (starts .entry); passes = now (passes .entry); lasts = now (lasts .entry); memory = now (memory .entry) }) flow steps (record { w = now (w .exit); acc = now (acc .exit); oflags = now (oflags .exit); sflags = now (sflags .exit); starts = now (starts .exit); passes = now (passes .exit); lasts = now (lasts .exit); memory = now (memory .exit) }) (r .flow) (r .steps) (r .pause)) ⌝ }
 {
     let mut f = flow;
     let mut made = steps;
@@ -78,8 +79,8 @@ fn step_on(
             limits,
             f,
             acc,
-            over,
-            sat,
+            oflags,
+            sflags,
             w,
             lasts,
             starts,
@@ -113,40 +114,51 @@ fn repeat_on(
     steps: u32,
     budget: u32,
     acc: &mut [i64; 2],
-    over: &mut [bool; 2],
-    sat: &mut [bool; 2],
+    oflags: &mut [bool; 2],
+    sflags: &mut [bool; 2],
     w: &mut [u16; 14],
     lasts: &[usize; 5],
     starts: &[usize; 4],
     passes: &[u32; 4],
     memory: &[u16],
 ) -> Leg
-    requires { ⌜ Known (now code) first count settings (record { w = now w; acc = now acc; over = now over; sat = now sat; starts = now starts; passes = now passes; lasts = now lasts; memory = now memory }) flow ⌝ }
+    requires { ⌜ Known (now code) first count settings (record { w = now w; acc = now acc; oflags = now oflags; sflags = now sflags; starts = now starts; passes = now passes; lasts = now lasts; memory = now memory }) flow ⌝ }
     requires { ⌜ limits ≡ limitsFor (settings .traps) (flow .mode) ⌝ }
     requires { ⌜ steps < budget ⌝ }
     requires { ⌜ 1 < flow .repeat ⌝ }
     requires { ⌜ first ≤ flow .pc ⌝ }
     requires { ⌜ flow .pc < first + count ⌝ }
     requires { ⌜ isPair (now code) (16 * (flow .pc - first)) ≡ true ⌝ }
-    ensures { λ r. ⌜ ((p : List Operation) → Window p (now (code .entry)) first count → Stood p settings (record { w = now (w .entry); acc = now (acc .entry); over = now (over .entry); sat = now (sat .entry); starts = now (starts .entry); passes = now (passes .entry); lasts = now (lasts .entry); memory = now (memory .entry) }) flow → Goes p settings first count budget (record { w = now (w .entry); acc = now (acc .entry); over = now (over .entry); sat = now (sat .entry); starts = now (starts .entry); passes = now (passes .entry); lasts = now (lasts .entry); memory = now (memory .entry) }) flow steps (record { w = now (w .exit); acc = now (acc .exit); over = now (over .exit); sat = now (sat .exit); starts = now (starts .entry); passes = now (passes .entry); lasts = now (lasts .entry); memory = now (memory .entry) }) (r .flow) (r .steps) (r .pause)) ⌝ }
+    ensures { λ r. ⌜ ((p : List Operation) → Window p (now (code .entry)) first count → Stood p settings (record { w = now (w .entry); acc = now (acc .entry); oflags = now (oflags .entry); sflags = now (sflags .entry); starts = now (starts .entry); passes = now (passes .entry); lasts = now (lasts .entry); memory = now (memory .entry) }) flow → Goes p settings first count budget (record { w = now (w .entry); acc = now (acc .entry); oflags = now (oflags .entry); sflags = now (sflags .entry); starts = now (starts .entry); passes = now (passes .entry); lasts = now (lasts .entry); memory = now (memory .entry) }) flow steps (record { w = now (w .exit); acc = now (acc .exit); oflags = now (oflags .exit); sflags = now (sflags .exit); starts = now (starts .entry); passes = now (passes .entry); lasts = now (lasts .entry); memory = now (memory .entry) }) (r .flow) (r .steps) (r .pause)) ⌝ }
 {
     let at = 16 * (flow.pc - first);
     let mut f = flow;
-    let mut done = steps;
+    let mut total = steps;
     loop {
-        let r = step_pair(code, at, settings, limits, f, acc, over, sat, w, memory);
+        let r = step_pair(
+            code,
+            at,
+            settings,
+            limits,
+            f,
+            acc,
+            oflags,
+            sflags,
+            w,
+            memory,
+        );
         let after = r.flow;
         f = after;
         let number = r.trap;
         if !r.counted {
-            return ended(f, done, Pause::Trapped(number));
+            return ended(f, total, Pause::Trapped(number));
         }
-        done += 1;
+        total += 1;
         if number != 0 {
-            return ended(f, done, Pause::Trapped(number));
+            return ended(f, total, Pause::Trapped(number));
         }
-        if (f.repeat < 2) | (done == budget) {
-            return ended(f, done, Pause::Onward);
+        if (f.repeat < 2) | (total == budget) {
+            return ended(f, total, Pause::Onward);
         }
     }
 }
@@ -162,18 +174,18 @@ fn leg_on(
     steps: u32,
     budget: u32,
     acc: &mut [i64; 2],
-    over: &mut [bool; 2],
-    sat: &mut [bool; 2],
+    oflags: &mut [bool; 2],
+    sflags: &mut [bool; 2],
     w: &mut [u16; 14],
     lasts: &mut [usize; 5],
     starts: &mut [usize; 4],
     passes: &mut [u32; 4],
     memory: &mut [u16],
 ) -> Leg
-    requires { ⌜ Known (now code) first count settings (record { w = now w; acc = now acc; over = now over; sat = now sat; starts = now starts; passes = now passes; lasts = now lasts; memory = now memory }) flow ⌝ }
+    requires { ⌜ Known (now code) first count settings (record { w = now w; acc = now acc; oflags = now oflags; sflags = now sflags; starts = now starts; passes = now passes; lasts = now lasts; memory = now memory }) flow ⌝ }
     requires { ⌜ limits ≡ limitsFor (settings .traps) (flow .mode) ⌝ }
     requires { ⌜ steps ≤ budget ⌝ }
-    ensures { λ r. ⌜ ((p : List Operation) → Window p (now (code .entry)) first count → Stood p settings (record { w = now (w .entry); acc = now (acc .entry); over = now (over .entry); sat = now (sat .entry); starts = now (starts .entry); passes = now (passes .entry); lasts = now (lasts .entry); memory = now (memory .entry) }) flow → Goes p settings first count budget (record { w = now (w .entry); acc = now (acc .entry); over = now (over .entry); sat = now (sat .entry); starts = now (starts .entry); passes = now (passes .entry); lasts = now (lasts .entry); memory = now (memory .entry) }) flow steps (record { w = now (w .exit); acc = now (acc .exit); over = now (over .exit); sat = now (sat .exit); starts = now (starts .exit); passes = now (passes .exit); lasts = now (lasts .exit); memory = now (memory .exit) }) (r .flow) (r .steps) (r .pause)) ⌝ }
+    ensures { λ r. ⌜ ((p : List Operation) → Window p (now (code .entry)) first count → Stood p settings (record { w = now (w .entry); acc = now (acc .entry); oflags = now (oflags .entry); sflags = now (sflags .entry); starts = now (starts .entry); passes = now (passes .entry); lasts = now (lasts .entry); memory = now (memory .entry) }) flow → Goes p settings first count budget (record { w = now (w .entry); acc = now (acc .entry); oflags = now (oflags .entry); sflags = now (sflags .entry); starts = now (starts .entry); passes = now (passes .entry); lasts = now (lasts .entry); memory = now (memory .entry) }) flow steps (record { w = now (w .exit); acc = now (acc .exit); oflags = now (oflags .exit); sflags = now (sflags .exit); starts = now (starts .exit); passes = now (passes .exit); lasts = now (lasts .exit); memory = now (memory .exit) }) (r .flow) (r .steps) (r .pause)) ⌝ }
 {
     let pc = flow.pc;
     if (first <= pc) & (pc < first + count) & (1 < flow.repeat) & (steps < budget) {
@@ -188,8 +200,8 @@ fn leg_on(
                 steps,
                 budget,
                 acc,
-                over,
-                sat,
+                oflags,
+                sflags,
                 w,
                 lasts,
                 starts,
@@ -208,8 +220,8 @@ fn leg_on(
         steps,
         budget,
         acc,
-        over,
-        sat,
+        oflags,
+        sflags,
         w,
         lasts,
         starts,
@@ -240,17 +252,17 @@ pub fn run_on(
     steps: u32,
     budget: u32,
     acc: &mut [i64; 2],
-    over: &mut [bool; 2],
-    sat: &mut [bool; 2],
+    oflags: &mut [bool; 2],
+    sflags: &mut [bool; 2],
     w: &mut [u16; 14],
     lasts: &mut [usize; 5],
     starts: &mut [usize; 4],
     passes: &mut [u32; 4],
     memory: &mut [u16],
 ) -> Leg
-    requires { ⌜ Known (now code) first count settings (record { w = now w; acc = now acc; over = now over; sat = now sat; starts = now starts; passes = now passes; lasts = now lasts; memory = now memory }) flow ⌝ }
+    requires { ⌜ Known (now code) first count settings (record { w = now w; acc = now acc; oflags = now oflags; sflags = now sflags; starts = now starts; passes = now passes; lasts = now lasts; memory = now memory }) flow ⌝ }
     requires { ⌜ steps ≤ budget ⌝ }
-    ensures { λ r. ⌜ ((p : List Operation) → Window p (now (code .entry)) first count → Stood p settings (record { w = now (w .entry); acc = now (acc .entry); over = now (over .entry); sat = now (sat .entry); starts = now (starts .entry); passes = now (passes .entry); lasts = now (lasts .entry); memory = now (memory .entry) }) flow → Goes p settings first count budget (record { w = now (w .entry); acc = now (acc .entry); over = now (over .entry); sat = now (sat .entry); starts = now (starts .entry); passes = now (passes .entry); lasts = now (lasts .entry); memory = now (memory .entry) }) flow steps (record { w = now (w .exit); acc = now (acc .exit); over = now (over .exit); sat = now (sat .exit); starts = now (starts .exit); passes = now (passes .exit); lasts = now (lasts .exit); memory = now (memory .exit) }) (r .flow) (r .steps) (r .pause)) ⌝ }
+    ensures { λ r. ⌜ ((p : List Operation) → Window p (now (code .entry)) first count → Stood p settings (record { w = now (w .entry); acc = now (acc .entry); oflags = now (oflags .entry); sflags = now (sflags .entry); starts = now (starts .entry); passes = now (passes .entry); lasts = now (lasts .entry); memory = now (memory .entry) }) flow → Goes p settings first count budget (record { w = now (w .entry); acc = now (acc .entry); oflags = now (oflags .entry); sflags = now (sflags .entry); starts = now (starts .entry); passes = now (passes .entry); lasts = now (lasts .entry); memory = now (memory .entry) }) flow steps (record { w = now (w .exit); acc = now (acc .exit); oflags = now (oflags .exit); sflags = now (sflags .exit); starts = now (starts .exit); passes = now (passes .exit); lasts = now (lasts .exit); memory = now (memory .exit) }) (r .flow) (r .steps) (r .pause)) ⌝ }
     ensures { λ r. ⌜ isOnward (r .pause) ≡ false ⌝ }
 {
     let mut f = flow;
@@ -267,8 +279,8 @@ pub fn run_on(
             made,
             budget,
             acc,
-            over,
-            sat,
+            oflags,
+            sflags,
             w,
             lasts,
             starts,

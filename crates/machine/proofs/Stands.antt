@@ -34,7 +34,6 @@ use Rattle.machine.specs.Loops.{innerStart, innerPasses, pushed, withPas
 use Rattle.machine.specs.Write.{settleOf, valueWord}
 use Rattle.machine.specs.Control.{innerLast, isNearLast, fallen, advanced, repeated, entered, endedEarly, controlOf, controlled, begins, stateControlled}
 use Rattle.machine.specs.Step.{Step, operationAt, stateAfter, completed, stepped}
-use Rattle.machine.specs.Lent.{Ready}
 use Rattle.machine.specs.declared.control.Control.{Control}
 use Rattle.machine.specs.declared.control.Control.the-variants.{None as Onward, Repeat as Repeating, RepeatRegister as RepeatingRegister, Do as Looping}
 use Rattle.machine.specs.declared.control.Control.the-variants.{DoRegister as LoopingRegister, EndEarly as EndingEarly, SetMode as SettingMode}
@@ -81,9 +80,9 @@ stands-accepted p s h =
     parts-accepted p s
     (record { at = h .at; a = h .a; b = h .b; good = h .good; loops = nested-loops p (s .core .pc) (s .core .loops) (h .nested); left = h .left })
 
--- it gives all that a step relies on, where there is an operation at pc
-pub stands-ready : (p : List Operation) (c : Core) → Stands p c → c .pc < length p → Ready (length p) (c .pc) (c .loops .depth) (c .loops .starts)
-stands-ready p c h l = record { at = l; few = h .nested .few; known = λ i f. known i f (ltb i (c .loops .depth)) refl }
+-- each of the four slots names an operation, where there is one at pc
+pub slots-known : (p : List Operation) (c : Core) → Stands p c → c .pc < length p → (i : ℕ) → i < 4 → slotStart (c .loops) i < length p
+slots-known p c h l i f = known i f (ltb i (c .loops .depth)) refl
   where
     known : (i : ℕ) → i < 4 → (t : Bool) → ltb i (c .loops .depth) ≡ t → slotStart (c .loops) i < length p
     known i f true e = omega (arith, h .nested .begun i (ltb-true i (c .loops .depth) e))

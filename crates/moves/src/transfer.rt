@@ -5,6 +5,7 @@ use accumulator::shift::shift;
 use accumulator::store::store;
 use address::word::ByteAddress;
 use fields::carry::Carry;
+use fields::carry::no_result;
 use fields::carry::result;
 use fields::carry::trapped;
 use fields::operand::operand_trap;
@@ -67,10 +68,10 @@ fn load(code: &[u16], at: usize, settings: Settings, w: &mut [u16; 14], memory: 
     let r = word(code, at, 4);
     let form = word(code, at, 6);
     let a = ByteAddress(register(w, r));
-    let none = operand_trap(form, a, memory.len());
-    if none != 0 {
+    let blocked = operand_trap(form, a, memory.len());
+    if blocked != 0 {
         return Read {
-            trap: none,
+            trap: blocked,
             word: 0,
         };
     }
@@ -101,7 +102,7 @@ fn load_from(
     let which = kind(code, at);
     if which == 17 {
         set_register(w, word(code, at, 1), read.word);
-        return trapped(0);
+        return no_result();
     }
     let value = loaded_value(read.word, word(code, at, 2));
     if which == 12 {
@@ -151,7 +152,7 @@ fn store_to(
     let x = word_of(code, at, mode, acc, w);
     step_operand(settings, true, form, r, a, w);
     put_operand(form, r, a, x, w, memory);
-    trapped(0)
+    no_result()
 }
 
 // Kinds 12 to 18.
@@ -173,7 +174,7 @@ pub fn transfer(
     let which = kind(code, at);
     if which == 16 {
         set_register(w, word(code, at, 1), word(code, at, 11));
-        return trapped(0);
+        return no_result();
     }
     if (which == 12) | (which == 13) | (which == 17) {
         return load_from(code, at, settings, acc, w, memory);

@@ -76,11 +76,11 @@ taken-bytes b e = encode-decode b (operationOf b) (taken-decode b e)
 
 -- ---- each field from its byte
 
-target-again : (t : Target) → targetOf (targetByte t) ≡ t
+pub target-again : (t : Target) → targetOf (targetByte t) ≡ t
 target-again A = refl
 target-again B = refl
 
-action-again : (a : Action) → actionOf (actionByte a) ≡ a
+pub action-again : (a : Action) → actionOf (actionByte a) ≡ a
 action-again Clr = refl
 action-again Mpy = refl
 action-again Mac = refl
@@ -90,7 +90,7 @@ action-again Edac = refl
 action-again Movsac = refl
 
 -- an action is one of kinds 1 to 7
-action-kind : (a : Action) → leb (actionByte a) 7 ≡ true
+pub action-kind : (a : Action) → leb (actionByte a) 7 ≡ true
 action-kind Clr = refl
 action-kind Mpy = refl
 action-kind Mac = refl
@@ -99,7 +99,7 @@ action-kind Ed = refl
 action-kind Edac = refl
 action-kind Movsac = refl
 
-write-back-again : (w : WriteBack) → writeBackOf (writeBackByte w) ≡ w
+pub write-back-again : (w : WriteBack) → writeBackOf (writeBackByte w) ≡ w
 write-back-again NoWriteBack = refl
 write-back-again ToRegister = refl
 write-back-again ToMemory = refl
@@ -115,11 +115,11 @@ operand-again (Memory p Stays) = refl
 operand-again (Memory p Increment) = refl
 operand-again (Memory p Decrement) = refl
 
-word-again : (v : ℕ) → v % 256 + 256 * (v / 256) ≡ v
+pub word-again : (v : ℕ) → v % 256 + 256 * (v / 256) ≡ v
 word-again v = omega arith
 
 -- a test against a number or the next one
-near : (r first : ℕ) → (eqb r first || eqb r (first + 1)) ≡ true → (first ≤ r) × (r ≤ first + 1)
+pub near : (r first : ℕ) → (eqb r first || eqb r (first + 1)) ≡ true → (first ≤ r) × (r ≤ first + 1)
 near r first e = go (eqb r first) refl e
   where
     go : (t : Bool) → eqb r first ≡ t → (t || eqb r (first + 1)) ≡ true → (first ≤ r) × (r ≤ first + 1)

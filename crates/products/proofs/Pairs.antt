@@ -24,20 +24,21 @@ use Rattle.machine.specs.Write.{putRegister, putMemory}
 use Rattle.form.specs.Words.{field, kindIn, prefetchIn, macIn}
 use Rattle.form.specs.Form.{Encoded}
 use Rattle.fields.specs.Carried.{Carries, Reads}
-use Rattle.fields.specs.declared.carry.Carry.{Carry}
 use Rattle.fields.specs.declared.read.Read.{Read}
 use Rattle.fields.proofs.Accesses.{prefetch-reads, back-free}
 use Rattle.fields.proofs.Pointers.{pointer-moves, back-stays}
-use Rattle.products.specs.Fetched.{Fetches, isPair}
+use Rattle.products.specs.Fetched.{Accumulates, Fetches, isPair}
 use Rattle.products.specs.declared.mac.Fetched.{Fetched}
 use Rattle.products.proofs.Arrivals.{load-some, arrived-words}
 use Rattle.products.proofs.WriteBacks.{back-none}
-use Rattle.products.proofs.Works.{Exactly, mac-trapped, mac-carries}
+use Rattle.products.proofs.Works.{mac-trapped, mac-carries}
 
 -- ---- its words
 
 pub record PairFields (code : List ℕ) (at : ℕ) : Type 0 where
   pub kind : kindIn code at ≤ 7
+  pub least : 2 ≤ kindIn code at
+  pub most : kindIn code at ≤ 5
   pub x-some : field code at 4 ≡ 0 → ⊥
   pub x-pointer : field code at 4 ≡ 12 → ⊥
   pub y-some : field code at 6 ≡ 0 → ⊥
@@ -59,6 +60,8 @@ pair-fields code at e =
     let most : kind ≤ 4 = leb-true kind 4 (d .1) in
     record {
       kind = omega arith;
+      least = leb-true 2 kind (d .0);
+      most = omega arith;
       x-some = λ (z : x ≡ 0). omega arith;
       x-pointer = λ (z : x ≡ 12). omega arith;
       y-some = λ (z : y ≡ 0). omega arith;
@@ -142,16 +145,15 @@ module _ (settings : Settings) (mode : ℕ) {code : List ℕ} {at : ℕ} (acc : 
   pair-trapped = mac-trapped settings mode acc w memory f e (pair-fields code at pair .kind) fetched
 
   -- without one: the product, both pointers set, the words arrived, the exact result
-  pub pair-carries : {w1 w2 w3 : List ℕ} → f .trap ≡ 0 → (r : Carry) (p : ℤ)
+  pub pair-carries : {w1 w2 w3 : List ℕ} → f .trap ≡ 0 → (r p : ℤ)
       → p ≡ macProduct (modeOf mode) (macIn code at) w
       → w1 ≡ set w xr (movedOf (settings .x) xr (f .xa .0) (stepOf (field code at 5)))
       → w2 ≡ set w1 yr (movedOf (settings .y) yr (f .ya .0) (stepOf (field code at 7)))
       → w3 ≡ arrived (macIn code at) (f .x) (f .y) w2
-      → r .trap ≡ 0
-      → Exactly r (kindIn code at) (getD acc (field code at 1) (pos 0)) p
-      → Carries settings mode code at acc w memory w3 memory r
+      → Accumulates (kindIn code at) (getD acc (field code at 1) (pos 0)) p r
+      → Carries settings mode code at acc w memory w3 memory (record { trap = 0; writes = true; r = r })
   unfolding macRegisters macAccesses putRegister putMemory
-  pair-carries {w1} {w2} {w3} free r p product e1 e2 e3 none exact =
+  pair-carries {w1} {w2} {w3} free r p product e1 e2 e3 exact =
       let fields = pair-fields code at pair in
       let n : ℕ = length memory in
       let x-test : (not (eqb xr 0) && not (eqb xr 12)) ≡ true = rw (ne-eqb xr 0 (fields .x-some), ne-eqb xr 12 (fields .x-pointer)) in
@@ -159,8 +161,8 @@ module _ (settings : Settings) (mode : ℕ) {code : List ℕ} {at : ℕ} (acc : 
       let first = e1 ∙ pointer-moves settings X xr (field code at 5) 12 (f .xa .0) n w w (fetched .xa) x-test in
       let second = e2 ∙ pointer-moves settings Y yr (field code at 7) 13 (f .ya .0) n w w1 (fetched .ya) y-test in
       let third = back-stays settings (field code at 10) (register w 13) n w w2 refl (omega (arith, fields .back)) in
-      mac-carries settings mode acc w memory f e (fields .kind) fetched free r p product
+      mac-carries settings mode acc w memory f e (fields .kind) fetched free (record { trap = 0; writes = true; r = r }) p product
       (e3 ∙ rw (fetched .x free, fetched .y free, third, second, first))
       (rw (back-none (field code at 10) n (fields .back) settings w))
       (rw (back-none (field code at 10) n (fields .back) settings w))
-      none exact
+      refl (λ t square some most same. exact t square (fields .least) (fields .most) same)

@@ -1,12 +1,11 @@
 -- Ranges: kind and pointer steps of kinds 1 to 7, from the operation's being encoded; accumulators and products. Assumes nothing.
-use Prim.Native.Nat.{ℕ, zero, suc, _*_, _/_, _^_, _≤_, _<_}
+use Prim.Native.Nat.{ℕ, _*_, _/_, _^_, _≤_, _<_}
 use mathlib.Core.Path.{_≡_, sym, _∙_}
 use mathlib.Core.Bool.{true}
 use mathlib.Core.List.{List}
 use native.Mathlib.Omega.{arith}
 use native.Mathlib.Nat.{add-zero}
-use lib.IntN.{ℤ, pos, natAbs}
-use lib.ListN.{getD}
+use lib.IntN.{ℤ, natAbs}
 use lib.Signed.{mag}
 use mir.Facts.{toZ-ofZ}
 use mir.Syntax.{w64}
@@ -22,7 +21,6 @@ use Rattle.operations.specs.declared.operation.Prefetch.the-variants.{None as N
 use Rattle.form.specs.Words.{wordsOfBytes, wordsFor, field, kindIn, macIn}
 use Rattle.form.specs.Form.{Encoded}
 use Rattle.form.proofs.Fields.{mac-operation, encoded-field}
-use Rattle.fields.specs.Carried.{Accumulators}
 
 -- the kind is an action's number
 action-some : (k : Action) → 1 ≤ actionByte k
@@ -58,12 +56,6 @@ module _ {code : List ℕ} {at : ℕ} (e : Encoded code at) (l : kindIn code at 
   y-step =
       let step : field code at 7 ≡ prefetchByte (macIn code at .y) 13 / 16 = encoded-field e 7 (omega arith) ∙ rw (mac-operation code at l) in
       omega (arith, step, prefetch-step (macIn code at .y) 13 (omega arith))
-
--- an accumulator by the target's number
-pub within : (acc : List ℤ) (t : ℕ) → t < 2 → Accumulators acc → isAccumulator (getD acc t (pos 0)) ≡ true
-within acc zero l h = h .a
-within acc (suc zero) l h = h .b
-within acc (suc (suc t)) l h = absurd (omega arith)
 
 -- accumulators and products have 64 bits
 pub accumulator-kept : (v : ℤ) → isAccumulator v ≡ true → toZ w64 (ofZ w64 v) ≡ v

@@ -1,15 +1,18 @@
 -- What kinds 1 to 7 read, and the shape that most of them have.
-use Prim.Native.Nat.{ℕ, _/_}
+use Prim.Native.Nat.{ℕ, _/_, _≤_}
 use mathlib.Core.Bool.{Bool, true, _&&_, _||_}
 use mathlib.Core.List.{List}
 use mathlib.Core.Path.{_≡_}
 use lib.Dec.{eqb, leb}
 use lib.IntN.{ℤ}
 use lib.ListN.{length}
+use Rattle.accumulator.specs.declared.mode.Target.{Target}
+use Rattle.operations.specs.Decode.{actionOf}
 use Rattle.state.specs.State.{register}
 use Rattle.state.specs.declared.settings.Settings.{Settings}
 use Rattle.effects.specs.Access.{wordAt}
-use Rattle.effects.specs.Mac.{macAccesses, macTrap}
+use Rattle.effects.specs.Mac.{exactBy, macAccesses, macTrap}
+use Rattle.effects.specs.declared.effect.Exact.the-variants.{Replace}
 use Rattle.form.specs.Words.{field, kindIn, macIn}
 use Rattle.products.specs.declared.mac.Fetched.{Fetched}
 
@@ -25,6 +28,10 @@ pub record Fetches (settings : Settings) (code : List ℕ) (at : ℕ) (w memory 
 -- the product is the square
 abbrev pub SquareIs : ℕ → ℤ → ℤ → Type 0
 SquareIs kind square p = (eqb kind 5 || eqb kind 6) ≡ true → square ≡ p
+
+-- r is the exact result of kinds 2 to 5, whatever the target
+abbrev pub Accumulates : ℕ → ℤ → ℤ → ℤ → Type 0
+Accumulates kind v p r = (t : Target) (square : ℤ) → 2 ≤ kind → kind ≤ 5 → SquareIs kind square p → Replace t r ≡ exactBy (actionOf kind) t v p square
 
 -- kinds 2 to 4 with two reads at pointers and no write-back
 abbrev pub isPair : List ℕ → ℕ → Bool

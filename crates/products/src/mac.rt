@@ -6,6 +6,7 @@ use accumulator::store::store;
 use address::region::Region;
 use address::word::ByteAddress;
 use fields::carry::Carry;
+use fields::carry::no_result;
 use fields::carry::result;
 use fields::carry::trapped;
 use fields::pointer::step_back;
@@ -43,7 +44,7 @@ ghost use Rattle.machine.specs.Write.{valueWord, putRegister, putMemory};
 ghost use Rattle.form.specs.Words.{kindIn, prefetchIn, macIn};
 ghost use Rattle.form.specs.Form.{Encoded};
 ghost use Rattle.fields.specs.Carried.{Carries, Accumulators};
-ghost use Rattle.products.specs.Fetched.{SquareIs, Fetches, isPair};
+ghost use Rattle.products.specs.Fetched.{SquareIs, Accumulates, Fetches, isPair};
 
 // A register's word as a factor, read by US of the mode word.
 fn factor(mode: u16, x: u16) -> Factor
@@ -170,24 +171,36 @@ fn less(v: i64, p: i64) -> i64
     v - p
 }
 
-// The exact result of the accumulator v and the product p, by the kind: 3 and 6 add, 4 subtracts, 1 clears, 7 keeps, 2 and 5 replace. A square is a
-// product of equal factors.
-pub fn mac_result(kind: u16, v: i64, p: i64) -> Carry
+// The exact result of kinds 2 to 5 of the accumulator v and the product p: 3 adds, 4 subtracts, 2 and 5 replace. A square is a product of equal factors.
+pub fn accumulated(kind: u16, v: i64, p: i64) -> i64
+    requires { ⌜ isAccumulator v ≡ true ⌝ }
+    requires { ⌜ natAbs p ≤ 65535 * 65535 * 2 ⌝ }
+    ensures { λ r. ⌜ Accumulates kind v p r ⌝ }
+{
+    if kind == 3 {
+        plus(v, p)
+    } else if kind == 4 {
+        less(v, p)
+    } else {
+        p
+    }
+}
+
+// The exact result by the kind, if it has one: 1 clears, 7 keeps, 6 adds.
+fn mac_result(kind: u16, v: i64, p: i64) -> Carry
     requires { ⌜ isAccumulator v ≡ true ⌝ }
     requires { ⌜ natAbs p ≤ 65535 * 65535 * 2 ⌝ }
     ensures { λ r. ⌜ r .trap ≡ 0 ⌝ }
     ensures { λ r. ⌜ ((t : Target) (square : ℤ) → 1 ≤ kind → kind ≤ 7 → SquareIs kind square p → cond (r .writes) (Replace t (r .r)) Keep ≡ exactBy (actionOf kind) t v p square) ⌝ }
 {
-    if (kind == 3) | (kind == 6) {
-        result(plus(v, p))
-    } else if kind == 4 {
-        result(less(v, p))
-    } else if kind == 1 {
+    if kind == 1 {
         result(0)
     } else if kind == 7 {
-        trapped(0)
+        no_result()
+    } else if kind == 6 {
+        result(plus(v, p))
     } else {
-        result(p)
+        result(accumulated(kind, v, p))
     }
 }
 
@@ -280,10 +293,10 @@ pub fn fetch_pair(
     let ya = ByteAddress(register(w, word(code, at, 6)));
     let ba = ByteAddress(w[13]);
     let xread = read_at(Region::x_part(settings.xwords), xa, memory);
-    let none = xread.trap;
-    if none != 0 {
+    let blocked = xread.trap;
+    if blocked != 0 {
         return Fetched {
-            trap: none,
+            trap: blocked,
             xa,
             ya,
             ba,
@@ -340,7 +353,7 @@ fn pair(
     step_pointer(settings.x, word(code, at, 4), xa, word(code, at, 5), w);
     step_pointer(settings.y, word(code, at, 6), ya, word(code, at, 7), w);
     arrive_pair(code, at, f.x, f.y, w);
-    mac_result(kind(code, at), acc[t], p)
+    result(accumulated(kind(code, at), acc[t], p))
 }
 
 // Kinds 1 to 7: the operation at `at` is carried out.

@@ -68,17 +68,17 @@ module _ (code : List ℕ) (at : ℕ) where
 
   -- ---- the same of a core that is lent
 
-  module _ (p : List Operation) (f r : Flow) (n : ℕ) (w : List ℕ) (acc : List ℤ) (over : List Bool) (starts passes : List ℕ) (counted : n ≡ countIn code at w) where
+  module _ (p : List Operation) (f r : Flow) (n : ℕ) (w : List ℕ) (acc : List ℤ) (oflags : List Bool) (starts passes : List ℕ) (counted : n ≡ countIn code at w) where
     abbrev core : Core
-    core = lentCore w acc over starts passes f
+    core = lentCore w acc oflags starts passes f
 
     pub begins-repeat : 18 < kindIn code at → kindIn code at < 21 → r ≡ record { pc = f .pc + 1; depth = f .depth; repeat = n + 1; mode = f .mode }
-        → lentCore w acc over starts passes r ≡ controlled p (controlOf (codedAt code at)) core
+        → lentCore w acc oflags starts passes r ≡ controlled p (controlOf (codedAt code at)) core
     unfolding repeated
     begins-repeat low high e = rw (repeat-controlled p core low high, ← counted, e)
 
-    pub begins-loop : 20 < kindIn code at → kindIn code at ≤ 22 → (starts' passes' : List ℕ) → lentCore w acc over starts' passes' r ≡ entered core n
-        → lentCore w acc over starts' passes' r ≡ controlled p (controlOf (codedAt code at)) core
+    pub begins-loop : 20 < kindIn code at → kindIn code at ≤ 22 → (starts' passes' : List ℕ) → lentCore w acc oflags starts' passes' r ≡ entered core n
+        → lentCore w acc oflags starts' passes' r ≡ controlled p (controlOf (codedAt code at)) core
     begins-loop low high starts' passes' e = rw (do-controlled p core low high, ← counted) e
 
   -- ---- the last operation that a DO names

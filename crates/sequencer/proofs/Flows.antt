@@ -85,27 +85,27 @@ module _ (p : List Operation) (f : Flow) (starts passes lasts : List ℕ) (kept 
   unfolding fallen withPasses
   another r l e =
       let left : 0 < more - 1 = omega arith in
-      record { core = λ w acc over. rw (e, lt-ltb 0 (more - 1) left); lasts = rw e kept }
+      record { core = λ w acc oflags. rw (e, lt-ltb 0 (more - 1) left); lasts = rw e kept }
 
   pub no-more : (r : Flow) → more ≤ 1 → r ≡ record { pc = f .pc + 1; depth = f .depth - 1; repeat = 0; mode = f .mode }
       → Moves p fallen f starts passes (set starts (f .depth - 1) 0) (set passes (f .depth - 1) 0) lasts r
   unfolding fallen popped
   no-more r l e =
       let none : more - 1 ≤ 0 = omega arith in
-      record { core = λ w acc over. rw (e, le-ltb 0 (more - 1) none); lasts = rw e (lasts-ended p starts lasts (f .depth) kept) }
+      record { core = λ w acc oflags. rw (e, le-ltb 0 (more - 1) none); lasts = rw e (lasts-ended p starts lasts (f .depth) kept) }
 
   -- ---- the next operation
 
   pub repeats : (r : Flow) → 1 < f .repeat → r ≡ record { pc = f .pc; depth = f .depth; repeat = f .repeat - 1; mode = f .mode }
       → Moves p (advanced p) f starts passes starts passes lasts r
   unfolding advanced
-  repeats r l e = record { core = λ w acc over. rw (e, lt-ltb 1 (f .repeat) l); lasts = rw e kept }
+  repeats r l e = record { core = λ w acc oflags. rw (e, lt-ltb 1 (f .repeat) l); lasts = rw e kept }
 
   pub onward : (r : Flow) → f .repeat ≤ 1 → (f .pc ≡ getD lasts (f .depth) 0 → ⊥) → r ≡ record { pc = f .pc + 1; depth = f .depth; repeat = 0; mode = f .mode }
       → Moves p (advanced p) f starts passes starts passes lasts r
   unfolding advanced
   onward r once other e =
-      record { core = λ w acc over. rw (e, le-ltb 1 (f .repeat) once, not-last (ltb 0 (f .depth)) (kept .each (f .depth) (omega arith))); lasts = rw e kept }
+      record { core = λ w acc oflags. rw (e, le-ltb 1 (f .repeat) once, not-last (ltb 0 (f .depth)) (kept .each (f .depth) (omega arith))); lasts = rw e kept }
     where
       not-last : (b : Bool) → getD lasts (f .depth) 0 ≡ cond b last-one 65536 → (b && eqb (f .pc) last-one) ≡ false
       not-last true e = ne-eqb (f .pc) last-one (rw e at other)
@@ -116,26 +116,26 @@ module _ (p : List Operation) (f : Flow) (starts passes lasts : List ℕ) (kept 
     inner = kept .each (f .depth) (omega arith) ∙ last-some p starts (f .depth) some
 
     pub falls : f .repeat ≤ 1 → f .pc ≡ getD lasts (f .depth) 0
-        → (w : List ℕ) (acc : List ℤ) (over : List Bool) → advanced p (lentCore w acc over starts passes f) ≡ fallen (lentCore w acc over starts passes f)
+        → (w : List ℕ) (acc : List ℤ) (oflags : List Bool) → advanced p (lentCore w acc oflags starts passes f) ≡ fallen (lentCore w acc oflags starts passes f)
     unfolding advanced
-    falls once e w acc over = rw (le-ltb 1 (f .repeat) once, lt-ltb 0 (f .depth) some, eq-eqb (f .pc) last-one (e ∙ inner))
+    falls once e w acc oflags = rw (le-ltb 1 (f .repeat) once, lt-ltb 0 (f .depth) some, eq-eqb (f .pc) last-one (e ∙ inner))
 
     -- ---- end early
 
-    module _ (most : ℕ) (near : most ≡ cond (isNearLast (f .pc) (getD lasts (f .depth) 0)) 2 1) (w : List ℕ) (acc : List ℤ) (over : List Bool) where
-      pub fewer : most < more → lentCore w acc over starts (set passes (f .depth - 1) most) f ≡ endedEarly p (lentCore w acc over starts passes f)
+    module _ (most : ℕ) (near : most ≡ cond (isNearLast (f .pc) (getD lasts (f .depth) 0)) 2 1) (w : List ℕ) (acc : List ℤ) (oflags : List Bool) where
+      pub fewer : most < more → lentCore w acc oflags starts (set passes (f .depth - 1) most) f ≡ endedEarly p (lentCore w acc oflags starts passes f)
       unfolding endedEarly withPasses
       fewer l =
           let least : min more most ≡ most = omega arith in
           rw (lt-ltb 0 (f .depth) some, ← inner, ← near, least)
 
-      pub no-fewer : more ≤ most → lentCore w acc over starts passes f ≡ endedEarly p (lentCore w acc over starts passes f)
+      pub no-fewer : more ≤ most → lentCore w acc oflags starts passes f ≡ endedEarly p (lentCore w acc oflags starts passes f)
       unfolding endedEarly withPasses
       no-fewer l =
           let least : min more most ≡ more = omega arith in
           rw (lt-ltb 0 (f .depth) some, ← inner, ← near, least, set-getD passes (f .depth - 1) 0)
 
-pub no-loop : (p : List Operation) (f : Flow) (starts passes w : List ℕ) (acc : List ℤ) (over : List Bool) → f .depth ≤ 0
-    → lentCore w acc over starts passes f ≡ endedEarly p (lentCore w acc over starts passes f)
+pub no-loop : (p : List Operation) (f : Flow) (starts passes w : List ℕ) (acc : List ℤ) (oflags : List Bool) → f .depth ≤ 0
+    → lentCore w acc oflags starts passes f ≡ endedEarly p (lentCore w acc oflags starts passes f)
 unfolding endedEarly
-no-loop p f starts passes w acc over none = rw (le-ltb 0 (f .depth) none)
+no-loop p f starts passes w acc oflags none = rw (le-ltb 0 (f .depth) none)

@@ -49,54 +49,54 @@ limit-at traps mode limits e (suc (suc t)) l = absurd (omega arith)
 
 -- ---- accumulators and flags written
 
-module _ {acc : List ℤ} {over sat : List Bool} (pairs : Twos acc over sat) (t : ℕ) where
-  pub pairs-written : (v : ℤ) (o : Bool) → Twos (set acc t v) (set over t o) sat
-  pairs-written v o =
-      record { values = length-set acc t v ∙ pairs .values; overflows = length-set over t o ∙ pairs .overflows; saturations = pairs .saturations }
+module _ {acc : List ℤ} {oflags sflags : List Bool} (twos : Twos acc oflags sflags) (t : ℕ) where
+  pub twos-written : (v : ℤ) (o : Bool) → Twos (set acc t v) (set oflags t o) sflags
+  twos-written v o =
+      record { values = length-set acc t v ∙ twos .values; overflows = length-set oflags t o ∙ twos .overflows; saturations = twos .saturations }
 
-  pub pairs-flagged : (s : Bool) → Twos acc over (set sat t s)
-  pairs-flagged s = record { values = pairs .values; overflows = pairs .overflows; saturations = length-set sat t s ∙ pairs .saturations }
+  pub twos-flagged : (s : Bool) → Twos acc oflags (set sflags t s)
+  twos-flagged s = record { values = twos .values; overflows = twos .overflows; saturations = length-set sflags t s ∙ twos .saturations }
 
-module _ (t : ℕ) (l : t < 2) (acc : List ℤ) (over sat : List Bool) (pairs : Twos acc over sat) (w starts passes : List ℕ) (f : Flow) where
+module _ (t : ℕ) (l : t < 2) (acc : List ℤ) (oflags sflags : List Bool) (twos : Twos acc oflags sflags) (w starts passes : List ℕ) (f : Flow) where
   written : (v : ℤ) (o s : Bool)
-      → lentState w (set acc t v) (set over t o) (set sat t s) starts passes f
-      ≡ withWritten (lentState w acc over sat starts passes f) (targetOf t) (record { value = v; overflow = o; saturation = s })
+      → lentState w (set acc t v) (set oflags t o) (set sflags t s) starts passes f
+      ≡ withWritten (lentState w acc oflags sflags starts passes f) (targetOf t) (record { value = v; overflow = o; saturation = s })
   written v o s = go t l
     where
-      go : (t : ℕ) → t < 2 → lentState w (set acc t v) (set over t o) (set sat t s) starts passes f
-          ≡ withWritten (lentState w acc over sat starts passes f) (targetOf t) (record { value = v; overflow = o; saturation = s })
+      go : (t : ℕ) → t < 2 → lentState w (set acc t v) (set oflags t o) (set sflags t s) starts passes f
+          ≡ withWritten (lentState w acc oflags sflags starts passes f) (targetOf t) (record { value = v; overflow = o; saturation = s })
       go zero l =
           rw (
-            getD-set-same acc 0 v (pos 0) (omega (arith, pairs .values)),
+            getD-set-same acc 0 v (pos 0) (omega (arith, twos .values)),
             getD-set-other acc 0 1 v (pos 0) (λ e. omega arith),
-            getD-set-same over 0 o false (omega (arith, pairs .overflows)),
-            getD-set-other over 0 1 o false (λ e. omega arith),
-            getD-set-same sat 0 s false (omega (arith, pairs .saturations)),
-            getD-set-other sat 0 1 s false (λ e. omega arith),
+            getD-set-same oflags 0 o false (omega (arith, twos .overflows)),
+            getD-set-other oflags 0 1 o false (λ e. omega arith),
+            getD-set-same sflags 0 s false (omega (arith, twos .saturations)),
+            getD-set-other sflags 0 1 s false (λ e. omega arith),
           )
       go (suc zero) l =
           rw (
-            getD-set-same acc 1 v (pos 0) (omega (arith, pairs .values)),
+            getD-set-same acc 1 v (pos 0) (omega (arith, twos .values)),
             getD-set-other acc 1 0 v (pos 0) (λ e. omega arith),
-            getD-set-same over 1 o false (omega (arith, pairs .overflows)),
-            getD-set-other over 1 0 o false (λ e. omega arith),
-            getD-set-same sat 1 s false (omega (arith, pairs .saturations)),
-            getD-set-other sat 1 0 s false (λ e. omega arith),
+            getD-set-same oflags 1 o false (omega (arith, twos .overflows)),
+            getD-set-other oflags 1 0 o false (λ e. omega arith),
+            getD-set-same sflags 1 s false (omega (arith, twos .saturations)),
+            getD-set-other sflags 1 0 s false (λ e. omega arith),
           )
       go (suc (suc t)) l = absurd (omega arith)
 
-  flag-at : accumulatorAt (lentState w acc over sat starts passes f) (targetOf t) .saturation ≡ getD sat t false
+  flag-at : accumulatorAt (lentState w acc oflags sflags starts passes f) (targetOf t) .saturation ≡ getD sflags t false
   flag-at = go t l
     where
-      go : (t : ℕ) → t < 2 → accumulatorAt (lentState w acc over sat starts passes f) (targetOf t) .saturation ≡ getD sat t false
+      go : (t : ℕ) → t < 2 → accumulatorAt (lentState w acc oflags sflags starts passes f) (targetOf t) .saturation ≡ getD sflags t false
       go zero l = refl
       go (suc zero) l = refl
       go (suc (suc t)) l = absurd (omega arith)
 
   settled : (traps : ℕ) (m : Mode) (r v : ℤ) (o s : Bool) (trap : ℕ) → v ≡ keptOf m (targetOf t) r → o ≡ overflows v
-      → s ≡ (getD sat t false || hasLeft m (targetOf t) r) → trap ≡ trapAfter traps m (targetOf t) r
-      → record { state = lentState w (set acc t v) (set over t o) (set sat t s) starts passes f; trap = trap }
-      ≡ settleOf traps m (Replace (targetOf t) r) (lentState w acc over sat starts passes f)
+      → s ≡ (getD sflags t false || hasLeft m (targetOf t) r) → trap ≡ trapAfter traps m (targetOf t) r
+      → record { state = lentState w (set acc t v) (set oflags t o) (set sflags t s) starts passes f; trap = trap }
+      ≡ settleOf traps m (Replace (targetOf t) r) (lentState w acc oflags sflags starts passes f)
   unfolding settleOf writeOf
   settled traps m r v o s trap ev eo es et = rw (written v o s, et, eo, ev, es, flag-at)
 
@@ -122,40 +122,40 @@ trap-same false true true z = refl
 trap-same false true false z = refl
 trap-same false false y z = refl
 
-module _ (traps mode t : ℕ) (l : t < 2) (r : ℤ) (acc : List ℤ) (over sat : List Bool) (pairs : Twos acc over sat) where
+module _ (traps mode t : ℕ) (l : t < 2) (r : ℤ) (acc : List ℤ) (oflags sflags : List Bool) (twos : Twos acc oflags sflags) where
   abbrev m : Mode
   m = modeOf mode
 
   abbrev target : Target
   target = targetOf t
 
-  pub settles-small : overflows r ≡ false → Settles traps mode t r acc over sat (set acc t r) (set over t false) sat 0
+  pub settles-small : overflows r ≡ false → Settles traps mode t r acc oflags sflags (set acc t r) (set oflags t false) sflags 0
   unfolding trapAfter
   settles-small e w starts passes f =
       let inside = never-left m target r e in
       let kept = kept-inside m target r inside in
-      let flag = or-right (getD sat t false) (hasLeft m target r) inside in
+      let flag = or-right (getD sflags t false) (hasLeft m target r) inside in
       let none : 0 ≡ trapAfter traps m target r = rw (inside, kept, e) in
-      rw (set-getD sat t false) at (settled t l acc over sat pairs w starts passes f traps m r r false (getD sat t false) 0 (sym kept) (sym e) flag none)
+      rw (set-getD sflags t false) at (settled t l acc oflags sflags twos w starts passes f traps m r r false (getD sflags t false) 0 (sym kept) (sym e) flag none)
 
   module _ (by : Limit) (known : by ≡ limitFor traps m target) where
     pub settles-inside : overflows r ≡ true → hasLeft m target r ≡ false
-        → Settles traps mode t r acc over sat (set acc t r) (set over t true) sat (by .beyond)
+        → Settles traps mode t r acc oflags sflags (set acc t r) (set oflags t true) sflags (by .overflow)
     unfolding trapAfter
     settles-inside e inside w starts passes f =
         let kept = kept-inside m target r inside in
-        let flag = or-right (getD sat t false) (hasLeft m target r) inside in
-        let trap : by .beyond ≡ trapAfter traps m target r = rw (inside, kept, e, known) in
-        rw (set-getD sat t false) at (settled t l acc over sat pairs w starts passes f traps m r r true (getD sat t false) (by .beyond) (sym kept) (sym e) flag trap)
+        let flag = or-right (getD sflags t false) (hasLeft m target r) inside in
+        let trap : by .overflow ≡ trapAfter traps m target r = rw (inside, kept, e, known) in
+        rw (set-getD sflags t false) at (settled t l acc oflags sflags twos w starts passes f traps m r r true (getD sflags t false) (by .overflow) (sym kept) (sym e) flag trap)
 
     pub settles-left : (v : ℤ) (o : Bool) (trap : ℕ) → hasLeft m target r ≡ true
         → v ≡ cond (by .on) (nearer (limitBits m target) r) (signedOf 40 (lowBits 40 r)) → o ≡ overflows v
-        → trap ≡ cond (eqb (by .left) 0) (cond o (by .beyond) 0) (by .left)
-        → Settles traps mode t r acc over sat (set acc t v) (set over t o) (set sat t true) trap
+        → trap ≡ cond (eqb (by .outside) 0) (cond o (by .overflow) 0) (by .outside)
+        → Settles traps mode t r acc oflags sflags (set acc t v) (set oflags t o) (set sflags t true) trap
     unfolding trapAfter keptOf
     settles-left v o trap out ev eo et w starts passes f =
         let kept : v ≡ keptOf m target r = rw out (ev ∙ rw known) in
-        let flag : true ≡ (getD sat t false || hasLeft m target r) = rw out (sym (or-true (getD sat t false))) in
+        let flag : true ≡ (getD sflags t false || hasLeft m target r) = rw out (sym (or-true (getD sflags t false))) in
         let first : trap ≡ trapAfter traps m target r =
         et ∙ rw known (trap-same (not (saturates m target) && trapsLeft traps) o (trapsOverflow traps target) (overflowTrap target) ∙ rw (← kept, ← eo, out)) in
-        settled t l acc over sat pairs w starts passes f traps m r v o true trap kept eo flag first
+        settled t l acc oflags sflags twos w starts passes f traps m r v o true trap kept eo flag first

@@ -22,16 +22,16 @@ use Rattle.sequencer.specs.declared.limits.Limit.{Limit}
 use Rattle.sequencer.specs.declared.limits.Limits.{Limits}
 
 -- the trap of a result outside the limits, by the trap word: 5 with saturation off and COVTE
-abbrev pub leftTrap : ℕ → Mode → Target → ℕ
-leftTrap traps m t = cond (not (saturates m t) && trapsLeft traps) 5 0
+abbrev pub outsideTrap : ℕ → Mode → Target → ℕ
+outsideTrap traps m t = cond (not (saturates m t) && trapsLeft traps) 5 0
 
 -- the trap of an overflow: 6 OA with OVATE, 7 OB with OVBTE
-abbrev pub beyondTrap : ℕ → Target → ℕ
-beyondTrap traps t = cond (trapsOverflow traps t) (overflowTrap t) 0
+abbrev pub overflowingTrap : ℕ → Target → ℕ
+overflowingTrap traps t = cond (trapsOverflow traps t) (overflowTrap t) 0
 
 -- of an accumulator: the limits are -1 - high .. high; saturation is on; the trap of a result outside them; the trap of an overflow
 abbrev pub limitFor : ℕ → Mode → Target → Limit
-limitFor traps m t = record { high = highest (limitBits m t); on = saturates m t; left = leftTrap traps m t; beyond = beyondTrap traps t }
+limitFor traps m t = record { high = highest (limitBits m t); on = saturates m t; outside = outsideTrap traps m t; overflow = overflowingTrap traps t }
 
 -- of A and B, by the trap word and a mode word
 abbrev pub limitsFor : ℕ → ℕ → Limits
@@ -41,16 +41,16 @@ limitsFor traps mode = record { a = limitFor traps (modeOf mode) A; b = limitFor
 abbrev pub limitAt : Limits → ℕ → Limit
 limitAt l t = cond (eqb t 0) (l .a) (l .b)
 
--- the result r is written to accumulator t: accumulators and flags become acc', over', sat'
+-- the result r is written to accumulator t: accumulators and flags become acc', oflags', sflags'
 abbrev pub Settles : ℕ → ℕ → ℕ → ℤ → List ℤ → List Bool → List Bool → List ℤ → List Bool → List Bool → ℕ → Type 0
-Settles traps mode t r acc over sat acc' over' sat' trap =
+Settles traps mode t r acc oflags sflags acc' oflags' sflags' trap =
     (w starts passes : List ℕ) (f : Flow)
-    → record { state = lentState w acc' over' sat' starts passes f; trap = trap }
-    ≡ settleOf traps (modeOf mode) (Replace (targetOf t) r) (lentState w acc over sat starts passes f)
+    → record { state = lentState w acc' oflags' sflags' starts passes f; trap = trap }
+    ≡ settleOf traps (modeOf mode) (Replace (targetOf t) r) (lentState w acc oflags sflags starts passes f)
 
 -- an operation's result is written, if it has one
 abbrev pub WritesResult : ℕ → ℕ → ℕ → Carry → List ℤ → List Bool → List Bool → List ℤ → List Bool → List Bool → ℕ → Type 0
-WritesResult traps mode t e acc over sat acc' over' sat' trap =
+WritesResult traps mode t e acc oflags sflags acc' oflags' sflags' trap =
     (w starts passes : List ℕ) (f : Flow)
-    → record { state = lentState w acc' over' sat' starts passes f; trap = trap }
-    ≡ settleOf traps (modeOf mode) (cond (e .writes) (Replace (targetOf t) (e .r)) Keep) (lentState w acc over sat starts passes f)
+    → record { state = lentState w acc' oflags' sflags' starts passes f; trap = trap }
+    ≡ settleOf traps (modeOf mode) (cond (e .writes) (Replace (targetOf t) (e .r)) Keep) (lentState w acc oflags sflags starts passes f)

@@ -35,7 +35,7 @@ pub record Standing (f : Flow) (starts lasts : List ℕ) : Type 0 where
 
 -- repeat left, loops and pc become those of r, starts' and passes', as `to` has it of the core
 pub record Moves (p : List Operation) (to : Core → Core) (f : Flow) (starts passes starts' passes' lasts' : List ℕ) (r : Flow) : Type 0 where
-  pub core : (w : List ℕ) (acc : List ℤ) (over : List Bool) → lentCore w acc over starts' passes' r ≡ to (lentCore w acc over starts passes f)
+  pub core : (w : List ℕ) (acc : List ℤ) (oflags : List Bool) → lentCore w acc oflags starts' passes' r ≡ to (lentCore w acc oflags starts passes f)
   pub lasts : Lasts p starts' lasts' (r .depth)
 
 -- the count of kinds 19 REPEAT and 21 DO, word 11, of 20 REPEAT by a register, 16 bits, and of 22 DO by a register, low 14 bits
@@ -46,7 +46,7 @@ countIn code at w =
 
 -- DO at pc begins a loop of n + 1 passes up to operation `last`
 pub record Enters (f : Flow) (n last : ℕ) (starts passes lasts starts' passes' lasts' : List ℕ) (r : Flow) : Type 0 where
-  pub core : (w : List ℕ) (acc : List ℤ) (over : List Bool) → lentCore w acc over starts' passes' r ≡ entered (lentCore w acc over starts passes f) n
+  pub core : (w : List ℕ) (acc : List ℤ) (oflags : List Bool) → lentCore w acc oflags starts' passes' r ≡ entered (lentCore w acc oflags starts passes f) n
   pub kept : (p : List Operation) → lastOf (roleAt p (f .pc)) ≡ last → Lasts p starts lasts (f .depth) → Lasts p starts' lasts' (r .depth)
   pub mode : r .mode ≡ f .mode
 

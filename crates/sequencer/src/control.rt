@@ -109,7 +109,7 @@ pub fn begin(
     requires { ⌜ Standing f (now starts) (now lasts) ⌝ }
     requires { ⌜ (20 < kindIn (now code) at → f .depth < 4) ⌝ }
     ensures { λ r. ⌜ ((p : List Operation) → Follows p (now (code .entry)) at f (now (starts .entry)) (now (lasts .entry)) → Lasts p (now (starts .exit)) (now (lasts .exit)) (r .depth)) ⌝ }
-    ensures { λ r. ⌜ ((p : List Operation) (acc : List ℤ) (over : List Bool) → lentCore (now (w .entry)) acc over (now (starts .exit)) (now (passes .exit)) r ≡ controlled p (controlOf (codedAt (now (code .entry)) at)) (lentCore (now (w .entry)) acc over (now (starts .entry)) (now (passes .entry)) f)) ⌝ }
+    ensures { λ r. ⌜ ((p : List Operation) (acc : List ℤ) (oflags : List Bool) → lentCore (now (w .entry)) acc oflags (now (starts .exit)) (now (passes .exit)) r ≡ controlled p (controlOf (codedAt (now (code .entry)) at)) (lentCore (now (w .entry)) acc oflags (now (starts .entry)) (now (passes .entry)) f)) ⌝ }
     ensures { λ r. ⌜ r .mode ≡ f .mode ⌝ }
 {
     let n = count_of(code, at, w);
@@ -122,7 +122,7 @@ pub fn begin(
 // Kind 23: the innermost loop's passes left become the smaller of themselves and 1, or 2 near the loop's last place.
 pub fn end_early(f: Flow, lasts: &[usize; 5], starts: &[usize; 4], passes: &mut [u32; 4])
     requires { ⌜ Standing f (now starts) (now lasts) ⌝ }
-    ensures { λ _. ⌜ ((p : List Operation) → Lasts p (now (starts .entry)) (now (lasts .entry)) (f .depth) → (w : List ℕ) (acc : List ℤ) (over : List Bool) → lentCore w acc over (now (starts .entry)) (now (passes .exit)) f ≡ endedEarly p (lentCore w acc over (now (starts .entry)) (now (passes .entry)) f)) ⌝ }
+    ensures { λ _. ⌜ ((p : List Operation) → Lasts p (now (starts .entry)) (now (lasts .entry)) (f .depth) → (w : List ℕ) (acc : List ℤ) (oflags : List Bool) → lentCore w acc oflags (now (starts .entry)) (now (passes .exit)) f ≡ endedEarly p (lentCore w acc oflags (now (starts .entry)) (now (passes .entry)) f)) ⌝ }
 {
     let pc = f.pc;
     let depth = f.depth;

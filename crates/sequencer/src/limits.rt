@@ -6,14 +6,14 @@ use state::settings::traps_overflow;
 ghost use mathlib.Core.Path.{_≡_};
 ghost use Rattle.integers.specs.Range.{highest};
 ghost use Rattle.accumulator.specs.Limit.{limitBits};
-ghost use Rattle.sequencer.specs.Settled.{leftTrap, beyondTrap, limitFor, limitsFor, limitAt};
+ghost use Rattle.sequencer.specs.Settled.{outsideTrap, overflowingTrap, limitFor, limitsFor, limitAt};
 
 // The limits are -1 - high .. high; whether saturation is on; the trap of a result outside the limits and that of an overflow, 0 none.
 pub struct Limit {
     pub high: i64,
     pub on: bool,
-    pub left: u8,
-    pub beyond: u8,
+    pub outside: u8,
+    pub overflow: u8,
 }
 
 // Of A and B.
@@ -34,8 +34,8 @@ fn high_of(mode: Mode, target: Target) -> i64
 }
 
 // The trap of a result outside the limits: 5, 0 none.
-fn left_trap(traps: u16, mode: Mode, target: Target) -> u8
-    ensures { λ r. ⌜ r ≡ leftTrap traps mode target ⌝ }
+fn outside_trap(traps: u16, mode: Mode, target: Target) -> u8
+    ensures { λ r. ⌜ r ≡ outsideTrap traps mode target ⌝ }
 {
     if !mode.saturates(target) & traps_left(traps) {
         5
@@ -45,8 +45,8 @@ fn left_trap(traps: u16, mode: Mode, target: Target) -> u8
 }
 
 // The trap of an overflow: 6 of A, 7 of B, 0 none.
-fn beyond_trap(traps: u16, target: Target) -> u8
-    ensures { λ r. ⌜ r ≡ beyondTrap traps target ⌝ }
+fn overflow_trap(traps: u16, target: Target) -> u8
+    ensures { λ r. ⌜ r ≡ overflowingTrap traps target ⌝ }
 {
     if traps_overflow(traps, target) {
         match target {
@@ -64,13 +64,13 @@ fn limit_of(traps: u16, mode: Mode, target: Target) -> Limit
 {
     let high = high_of(mode, target);
     let on = mode.saturates(target);
-    let left = left_trap(traps, mode, target);
-    let beyond = beyond_trap(traps, target);
+    let outside = outside_trap(traps, mode, target);
+    let overflow = overflow_trap(traps, target);
     Limit {
         high,
         on,
-        left,
-        beyond,
+        outside,
+        overflow,
     }
 }
 

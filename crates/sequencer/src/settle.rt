@@ -35,14 +35,14 @@ fn kept(on: bool, high: i64, r: i64) -> i64
     if on { nearer(high, r) } else { low40(r) }
 }
 
-// The first trap of a result outside the limits: `left`, then, with an overflow, `beyond`.
-fn first_trap(left: u8, o: bool, beyond: u8) -> u8
-    ensures { λ r. ⌜ r ≡ cond (eqb left 0) (cond o beyond 0) left ⌝ }
+// The first trap of a result outside the limits: `outside`, then, with an overflow, `overflow`.
+fn first_trap(outside: u8, o: bool, overflow: u8) -> u8
+    ensures { λ r. ⌜ r ≡ cond (eqb outside 0) (cond o overflow 0) outside ⌝ }
 {
-    if left != 0 {
-        left
+    if outside != 0 {
+        outside
     } else if o {
-        beyond
+        overflow
     } else {
         0
     }
@@ -54,28 +54,28 @@ fn limit(
     t: usize,
     r: i64,
     acc: &mut [i64; 2],
-    over: &mut [bool; 2],
-    sat: &mut [bool; 2],
+    oflags: &mut [bool; 2],
+    sflags: &mut [bool; 2],
 ) -> u8
     requires { ⌜ t < 2 ⌝ }
-    requires { ⌜ Twos (now acc) (now over) (now sat) ⌝ }
+    requires { ⌜ Twos (now acc) (now oflags) (now sflags) ⌝ }
     requires { ⌜ overflows r ≡ true ⌝ }
-    ensures { λ x. ⌜ ((traps mode : ℕ) → limits ≡ limitsFor traps mode → Settles traps mode t r (now (acc .entry)) (now (over .entry)) (now (sat .entry)) (now (acc .exit)) (now (over .exit)) (now (sat .exit)) x) ⌝ }
-    ensures { λ _. ⌜ Twos (now (acc .exit)) (now (over .exit)) (now (sat .exit)) ⌝ }
+    ensures { λ x. ⌜ ((traps mode : ℕ) → limits ≡ limitsFor traps mode → Settles traps mode t r (now (acc .entry)) (now (oflags .entry)) (now (sflags .entry)) (now (acc .exit)) (now (oflags .exit)) (now (sflags .exit)) x) ⌝ }
+    ensures { λ _. ⌜ Twos (now (acc .exit)) (now (oflags .exit)) (now (sflags .exit)) ⌝ }
 {
     let by = limits.at(t);
     let high = by.high;
     if !has_left(high, r) {
         acc[t] = r;
-        over[t] = true;
-        return by.beyond;
+        oflags[t] = true;
+        return by.overflow;
     }
     let v = kept(by.on, high, r);
     let o = overflow(v);
     acc[t] = v;
-    over[t] = o;
-    sat[t] = true;
-    first_trap(by.left, o, by.beyond)
+    oflags[t] = o;
+    sflags[t] = true;
+    first_trap(by.outside, o, by.overflow)
 }
 
 // The result r is written to accumulator t: within 32 bits nothing is limited; its trap, 0 none.
@@ -84,18 +84,18 @@ pub fn settle(
     t: usize,
     r: i64,
     acc: &mut [i64; 2],
-    over: &mut [bool; 2],
-    sat: &mut [bool; 2],
+    oflags: &mut [bool; 2],
+    sflags: &mut [bool; 2],
 ) -> u8
     requires { ⌜ t < 2 ⌝ }
-    requires { ⌜ Twos (now acc) (now over) (now sat) ⌝ }
-    ensures { λ x. ⌜ ((traps mode : ℕ) → limits ≡ limitsFor traps mode → Settles traps mode t r (now (acc .entry)) (now (over .entry)) (now (sat .entry)) (now (acc .exit)) (now (over .exit)) (now (sat .exit)) x) ⌝ }
-    ensures { λ _. ⌜ Twos (now (acc .exit)) (now (over .exit)) (now (sat .exit)) ⌝ }
+    requires { ⌜ Twos (now acc) (now oflags) (now sflags) ⌝ }
+    ensures { λ x. ⌜ ((traps mode : ℕ) → limits ≡ limitsFor traps mode → Settles traps mode t r (now (acc .entry)) (now (oflags .entry)) (now (sflags .entry)) (now (acc .exit)) (now (oflags .exit)) (now (sflags .exit)) x) ⌝ }
+    ensures { λ _. ⌜ Twos (now (acc .exit)) (now (oflags .exit)) (now (sflags .exit)) ⌝ }
 {
     if !overflow(r) {
         acc[t] = r;
-        over[t] = false;
+        oflags[t] = false;
         return 0;
     }
-    limit(limits, t, r, acc, over, sat)
+    limit(limits, t, r, acc, oflags, sflags)
 }

@@ -39,7 +39,7 @@ use Rattle.effects.specs.declared.effect.Value.{Value}
 use Rattle.effects.specs.declared.effect.Value.the-variants.{Word, Scaled}
 use Rattle.effects.specs.declared.pointer.Purpose.the-variants.{Read, Store as Storing}
 use Rattle.machine.specs.Control.{controlOf, controlled, advanced, stateControlled}
-use Rattle.machine.specs.Step.{Step, operationAt, completed, stepped}
+use Rattle.machine.specs.Step.{operationAt, completed, stepped}
 use Rattle.machine.specs.Write.{valueWord, putRegister, putMemory, settleOf}
 use Rattle.machine.specs.declared.control.Control.the-variants.{None as Onward}
 use Rattle.operations.specs.Decode.{targetOf, postOf}
@@ -180,13 +180,13 @@ module _ (code : List ℕ) (at : ℕ) (settings : Settings) (m : Mode) (c : Core
       (λ l. ⊎-elim (λ e. load-keeps (sym e)) (λ k. store-keeps (omega arith)) (eq-or-lt-of-le l))
       (eq-or-lt-of-le low)
 
-module _ (settings : Settings) (p : List Operation) (o : Operation) (f : Flow) (acc : List ℤ) (over sat : List Bool) (w starts passes memory : List ℕ)
+module _ (settings : Settings) (p : List Operation) (o : Operation) (f : Flow) (acc : List ℤ) (oflags sflags : List Bool) (w starts passes memory : List ℕ)
     (here : operationAt p (f .pc) ≡ o) where
   abbrev mode : Mode
   mode = modeOf (f .mode)
 
   abbrev work : Work
-  work = workOf settings mode o (lentCore w acc over starts passes f) memory
+  work = workOf settings mode o (lentCore w acc oflags starts passes f) memory
 
   module _ (t : Target) (w' memory' : List ℕ) (e : Carry) (carries : carriedIn w' memory' t e ≡ carriedOf mode work memory) where
     trap-is : e .trap ≡ work .effect .trap
@@ -207,26 +207,26 @@ module _ (settings : Settings) (p : List Operation) (o : Operation) (f : Flow) (
 
     -- a trap 1 to 4
     pub step-trapped : (e .trap ≡ 0 → ⊥)
-        → record { state = lentState w' acc over sat starts passes f; memory = memory'; trap = e .trap; counted = false }
-        ≡ stepped p settings (lentState w acc over sat starts passes f) memory
+        → record { state = lentState w' acc oflags sflags starts passes f; memory = memory'; trap = e .trap; counted = false }
+        ≡ stepped p settings (lentState w acc oflags sflags starts passes f) memory
     unfolding stepped
     step-trapped n =
-        let stays = trap-stays settings mode (lentCore w acc over starts passes f) memory o (λ z. n (trap-is ∙ z)) in
+        let stays = trap-stays settings mode (lentCore w acc oflags starts passes f) memory o (λ z. n (trap-is ∙ z)) in
         let ew : w' ≡ w = ap (λ (x : Carried). x .w) carries ∙ stays .0 in
         let em : memory' ≡ memory = ap (λ (x : Carried). x .memory) carries ∙ stays .1 in
         rw (here, ← trap-is, ne-eqb (e .trap) 0 n, ew, em)
 
     -- no trap: the result is written and the next operation due
-    pub step-done : (acc' : List ℤ) (over' sat' : List Bool) (starts' passes' : List ℕ) (r : Flow) (trap : ℕ)
+    pub step-done : (acc' : List ℤ) (oflags' sflags' : List Bool) (starts' passes' : List ℕ) (r : Flow) (trap : ℕ)
         → e .trap ≡ 0
         → controlOf o ≡ Onward
-        → record { state = lentState w' acc' over' sat' starts passes f; trap = trap }
-        ≡ settleOf (settings .traps) mode (cond (e .writes) (Replace t (e .r)) Keep) (lentState w' acc over sat starts passes f)
-        → lentCore w' acc' over' starts' passes' r ≡ advanced p (lentCore w' acc' over' starts passes f)
-        → record { state = lentState w' acc' over' sat' starts' passes' r; memory = memory'; trap = trap; counted = true }
-        ≡ stepped p settings (lentState w acc over sat starts passes f) memory
+        → record { state = lentState w' acc' oflags' sflags' starts passes f; trap = trap }
+        ≡ settleOf (settings .traps) mode (cond (e .writes) (Replace t (e .r)) Keep) (lentState w' acc oflags sflags starts passes f)
+        → lentCore w' acc' oflags' starts' passes' r ≡ advanced p (lentCore w' acc' oflags' starts passes f)
+        → record { state = lentState w' acc' oflags' sflags' starts' passes' r; memory = memory'; trap = trap; counted = true }
+        ≡ stepped p settings (lentState w acc oflags sflags starts passes f) memory
     unfolding stepped completed stateControlled controlled
-    step-done acc' over' sat' starts' passes' r trap free onward written next =
+    step-done acc' oflags' sflags' starts' passes' r trap free onward written next =
         rw (
           here,
           eq-eqb (work .effect .trap) 0 (sym trap-is ∙ free),

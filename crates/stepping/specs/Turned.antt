@@ -16,8 +16,8 @@ use Rattle.stepping.specs.declared.step.Turn.{Turn}
 pub record Held : Type 0 where
   pub w : List ℕ
   pub acc : List ℤ
-  pub over : List Bool
-  pub sat : List Bool
+  pub oflags : List Bool
+  pub sflags : List Bool
   pub starts : List ℕ
   pub passes : List ℕ
   pub lasts : List ℕ
@@ -26,13 +26,13 @@ pub record Held : Type 0 where
 -- a step made of them
 abbrev pub turnIn : Held → Turn → Step
 turnIn h r =
-    record { state = lentState (h .w) (h .acc) (h .over) (h .sat) (h .starts) (h .passes) (r .flow); memory = h .memory; trap = r .trap; counted = r .counted }
+    record { state = lentState (h .w) (h .acc) (h .oflags) (h .sflags) (h .starts) (h .passes) (r .flow); memory = h .memory; trap = r .trap; counted = r .counted }
 
 -- the operation at pc of p is executed: what is held becomes `after`; the mode word is set in an ending turn alone, and arrays of two stay so
 pub record Turns (p : List Operation) (settings : Settings) (f : Flow) (before after : Held) (r : Turn) : Type 0 where
   pub step :
       turnIn after r
-      ≡ stepped p settings (lentState (before .w) (before .acc) (before .over) (before .sat) (before .starts) (before .passes) f) (before .memory)
+      ≡ stepped p settings (lentState (before .w) (before .acc) (before .oflags) (before .sflags) (before .starts) (before .passes) f) (before .memory)
   pub lasts : Lasts p (after .starts) (after .lasts) (r .flow .depth)
   pub mode : r .ends ≡ false → r .flow .mode ≡ f .mode
-  pub pairs : Twos (after .acc) (after .over) (after .sat)
+  pub twos : Twos (after .acc) (after .oflags) (after .sflags)

@@ -2,17 +2,17 @@
 use crate::step::Turn;
 use crate::step::complete;
 use crate::step::uncounted;
-use crate::step::write;
 use fields::pointer::step_pointer;
 use fields::words::kind;
 use fields::words::target;
 use fields::words::word;
+use products::mac::accumulated;
 use products::mac::arrive_pair;
 use products::mac::fetch_pair;
 use products::mac::mac_product;
-use products::mac::mac_result;
 use sequencer::flow::Flow;
 use sequencer::limits::Limits;
+use sequencer::settle::settle;
 use state::settings::Settings;
 ghost use mathlib.Core.Bool.{true, false};
 ghost use mathlib.Core.List.{List};
@@ -36,8 +36,8 @@ pub fn step_pair(
     limits: Limits,
     f: Flow,
     acc: &mut [i64; 2],
-    over: &mut [bool; 2],
-    sat: &mut [bool; 2],
+    oflags: &mut [bool; 2],
+    sflags: &mut [bool; 2],
     w: &mut [u16; 14],
     memory: &[u16],
 ) -> Turn
@@ -46,16 +46,16 @@ pub fn step_pair(
     requires { ⌜ settings .xwords ≤ length (now memory) ⌝ }
     requires { ⌜ limits ≡ limitsFor (settings .traps) (f .mode) ⌝ }
     requires { ⌜ Accumulators (now acc) ⌝ }
-    requires { ⌜ Twos (now acc) (now over) (now sat) ⌝ }
+    requires { ⌜ Twos (now acc) (now oflags) (now sflags) ⌝ }
     requires { ⌜ 1 < f .repeat ⌝ }
-    ensures { λ r. ⌜ ((p : List Operation) (starts passes lasts : List ℕ) → Follows p (now (code .entry)) at f starts lasts → Turns p settings f (record { w = now (w .entry); acc = now (acc .entry); over = now (over .entry); sat = now (sat .entry); starts = starts; passes = passes; lasts = lasts; memory = now (memory .entry) }) (record { w = now (w .exit); acc = now (acc .exit); over = now (over .exit); sat = now (sat .exit); starts = starts; passes = passes; lasts = lasts; memory = now (memory .entry) }) r) ⌝ }
+    ensures { λ r. ⌜ ((p : List Operation) (starts passes lasts : List ℕ) → Follows p (now (code .entry)) at f starts lasts → Turns p settings f (record { w = now (w .entry); acc = now (acc .entry); oflags = now (oflags .entry); sflags = now (sflags .entry); starts = starts; passes = passes; lasts = lasts; memory = now (memory .entry) }) (record { w = now (w .exit); acc = now (acc .exit); oflags = now (oflags .exit); sflags = now (sflags .exit); starts = starts; passes = passes; lasts = lasts; memory = now (memory .entry) }) r) ⌝ }
     ensures { λ r. ⌜ r .flow .pc ≡ f .pc ⌝ }
     ensures { λ r. ⌜ r .ends ≡ false ⌝ }
 {
     let fetched = fetch_pair(code, at, settings, w, memory);
-    let none = fetched.trap;
-    if none != 0 {
-        return uncounted(f, none);
+    let blocked = fetched.trap;
+    if blocked != 0 {
+        return uncounted(f, blocked);
     }
     let xa = fetched.xa;
     let ya = fetched.ya;
@@ -64,8 +64,8 @@ pub fn step_pair(
     step_pointer(settings.x, word(code, at, 4), xa, word(code, at, 5), w);
     step_pointer(settings.y, word(code, at, 6), ya, word(code, at, 7), w);
     arrive_pair(code, at, fetched.x, fetched.y, w);
-    let e = mac_result(kind(code, at), acc[t], p);
-    let trap = write(code, at, limits, e, acc, over, sat);
+    let r = accumulated(kind(code, at), acc[t], p);
+    let trap = settle(limits, t, r, acc, oflags, sflags);
     let flow = f.at(f.pc, f.depth, f.repeat - 1);
     complete(flow, trap, false)
 }

@@ -59,24 +59,24 @@ pub fn complete(f: Flow, trap: u8, ends: bool) -> Turn
 }
 
 // The result of an operation, if it has one, is written; its trap.
-pub fn write(
+fn write(
     code: &[u16],
     at: usize,
     limits: Limits,
     e: Carry,
     acc: &mut [i64; 2],
-    over: &mut [bool; 2],
-    sat: &mut [bool; 2],
+    oflags: &mut [bool; 2],
+    sflags: &mut [bool; 2],
 ) -> u8
     requires { ⌜ Encoded (now code) at ⌝ }
     requires { ⌜ (e .writes ≡ true → kindIn (now code) at ≤ 15) ⌝ }
-    requires { ⌜ Twos (now acc) (now over) (now sat) ⌝ }
-    ensures { λ x. ⌜ ((traps mode : ℕ) → limits ≡ limitsFor traps mode → WritesResult traps mode (field (now (code .entry)) at 1) e (now (acc .entry)) (now (over .entry)) (now (sat .entry)) (now (acc .exit)) (now (over .exit)) (now (sat .exit)) x) ⌝ }
-    ensures { λ _. ⌜ Twos (now (acc .exit)) (now (over .exit)) (now (sat .exit)) ⌝ }
+    requires { ⌜ Twos (now acc) (now oflags) (now sflags) ⌝ }
+    ensures { λ x. ⌜ ((traps mode : ℕ) → limits ≡ limitsFor traps mode → WritesResult traps mode (field (now (code .entry)) at 1) e (now (acc .entry)) (now (oflags .entry)) (now (sflags .entry)) (now (acc .exit)) (now (oflags .exit)) (now (sflags .exit)) x) ⌝ }
+    ensures { λ _. ⌜ Twos (now (acc .exit)) (now (oflags .exit)) (now (sflags .exit)) ⌝ }
 {
     if e.writes {
         let t = target(code, at);
-        return settle(limits, t, e.r, acc, over, sat);
+        return settle(limits, t, e.r, acc, oflags, sflags);
     }
     0
 }
@@ -89,8 +89,8 @@ fn step_work(
     limits: Limits,
     f: Flow,
     acc: &mut [i64; 2],
-    over: &mut [bool; 2],
-    sat: &mut [bool; 2],
+    oflags: &mut [bool; 2],
+    sflags: &mut [bool; 2],
     w: &mut [u16; 14],
     lasts: &[usize; 5],
     starts: &mut [usize; 4],
@@ -102,16 +102,16 @@ fn step_work(
     requires { ⌜ settings .xwords ≤ length (now memory) ⌝ }
     requires { ⌜ limits ≡ limitsFor (settings .traps) (f .mode) ⌝ }
     requires { ⌜ Accumulators (now acc) ⌝ }
-    requires { ⌜ Twos (now acc) (now over) (now sat) ⌝ }
+    requires { ⌜ Twos (now acc) (now oflags) (now sflags) ⌝ }
     requires { ⌜ Standing f (now starts) (now lasts) ⌝ }
-    ensures { λ r. ⌜ ((p : List Operation) → Follows p (now (code .entry)) at f (now (starts .entry)) (now (lasts .entry)) → Turns p settings f (record { w = now (w .entry); acc = now (acc .entry); over = now (over .entry); sat = now (sat .entry); starts = now (starts .entry); passes = now (passes .entry); lasts = now (lasts .entry); memory = now (memory .entry) }) (record { w = now (w .exit); acc = now (acc .exit); over = now (over .exit); sat = now (sat .exit); starts = now (starts .exit); passes = now (passes .exit); lasts = now (lasts .entry); memory = now (memory .exit) }) r) ⌝ }
+    ensures { λ r. ⌜ ((p : List Operation) → Follows p (now (code .entry)) at f (now (starts .entry)) (now (lasts .entry)) → Turns p settings f (record { w = now (w .entry); acc = now (acc .entry); oflags = now (oflags .entry); sflags = now (sflags .entry); starts = now (starts .entry); passes = now (passes .entry); lasts = now (lasts .entry); memory = now (memory .entry) }) (record { w = now (w .exit); acc = now (acc .exit); oflags = now (oflags .exit); sflags = now (sflags .exit); starts = now (starts .exit); passes = now (passes .exit); lasts = now (lasts .entry); memory = now (memory .exit) }) r) ⌝ }
 {
     let e = work(code, at, settings, f.mode, acc, w, memory);
-    let none = e.trap;
-    if none != 0 {
-        return uncounted(f, none);
+    let blocked = e.trap;
+    if blocked != 0 {
+        return uncounted(f, blocked);
     }
-    let trap = write(code, at, limits, e, acc, over, sat);
+    let trap = write(code, at, limits, e, acc, oflags, sflags);
     let flow = advance(f, lasts, starts, passes);
     complete(flow, trap, false)
 }
@@ -130,7 +130,7 @@ fn step_begin(
     requires { ⌜ 18 < kindIn (now code) at ⌝ }
     requires { ⌜ kindIn (now code) at ≤ 22 ⌝ }
     requires { ⌜ Standing f (now starts) (now lasts) ⌝ }
-    ensures { λ r. ⌜ ((p : List Operation) (settings : Settings) (acc : List ℤ) (over sat : List Bool) (memory : List ℕ) → Twos acc over sat → Follows p (now (code .entry)) at f (now (starts .entry)) (now (lasts .entry)) → Turns p settings f (record { w = now (w .entry); acc = acc; over = over; sat = sat; starts = now (starts .entry); passes = now (passes .entry); lasts = now (lasts .entry); memory = memory }) (record { w = now (w .entry); acc = acc; over = over; sat = sat; starts = now (starts .exit); passes = now (passes .exit); lasts = now (lasts .exit); memory = memory }) r) ⌝ }
+    ensures { λ r. ⌜ ((p : List Operation) (settings : Settings) (acc : List ℤ) (oflags sflags : List Bool) (memory : List ℕ) → Twos acc oflags sflags → Follows p (now (code .entry)) at f (now (starts .entry)) (now (lasts .entry)) → Turns p settings f (record { w = now (w .entry); acc = acc; oflags = oflags; sflags = sflags; starts = now (starts .entry); passes = now (passes .entry); lasts = now (lasts .entry); memory = memory }) (record { w = now (w .entry); acc = acc; oflags = oflags; sflags = sflags; starts = now (starts .exit); passes = now (passes .exit); lasts = now (lasts .exit); memory = memory }) r) ⌝ }
 {
     let which = kind(code, at);
     if (20 < which) & (f.depth == 4) {
@@ -145,7 +145,7 @@ fn step_control(
     code: &[u16],
     at: usize,
     f: Flow,
-    sat: &mut [bool; 2],
+    sflags: &mut [bool; 2],
     lasts: &[usize; 5],
     starts: &mut [usize; 4],
     passes: &mut [u32; 4],
@@ -153,7 +153,7 @@ fn step_control(
     requires { ⌜ Encoded (now code) at ⌝ }
     requires { ⌜ 22 < kindIn (now code) at ⌝ }
     requires { ⌜ Standing f (now starts) (now lasts) ⌝ }
-    ensures { λ r. ⌜ ((p : List Operation) (settings : Settings) (w : List ℕ) (acc : List ℤ) (over : List Bool) (memory : List ℕ) → Twos acc over (now (sat .entry)) → Follows p (now (code .entry)) at f (now (starts .entry)) (now (lasts .entry)) → Turns p settings f (record { w = w; acc = acc; over = over; sat = now (sat .entry); starts = now (starts .entry); passes = now (passes .entry); lasts = now (lasts .entry); memory = memory }) (record { w = w; acc = acc; over = over; sat = now (sat .exit); starts = now (starts .exit); passes = now (passes .exit); lasts = now (lasts .entry); memory = memory }) r) ⌝ }
+    ensures { λ r. ⌜ ((p : List Operation) (settings : Settings) (w : List ℕ) (acc : List ℤ) (oflags : List Bool) (memory : List ℕ) → Twos acc oflags (now (sflags .entry)) → Follows p (now (code .entry)) at f (now (starts .entry)) (now (lasts .entry)) → Turns p settings f (record { w = w; acc = acc; oflags = oflags; sflags = now (sflags .entry); starts = now (starts .entry); passes = now (passes .entry); lasts = now (lasts .entry); memory = memory }) (record { w = w; acc = acc; oflags = oflags; sflags = now (sflags .exit); starts = now (starts .exit); passes = now (passes .exit); lasts = now (lasts .entry); memory = memory }) r) ⌝ }
 {
     let which = kind(code, at);
     if which == 24 {
@@ -165,8 +165,8 @@ fn step_control(
         let flow = advance(f, lasts, starts, passes);
         return complete(flow, 0, false);
     }
-    sat[0] = false;
-    sat[1] = false;
+    sflags[0] = false;
+    sflags[1] = false;
     let flow = advance(f, lasts, starts, passes);
     complete(flow, 0, false)
 }
@@ -179,8 +179,8 @@ pub fn step(
     limits: Limits,
     f: Flow,
     acc: &mut [i64; 2],
-    over: &mut [bool; 2],
-    sat: &mut [bool; 2],
+    oflags: &mut [bool; 2],
+    sflags: &mut [bool; 2],
     w: &mut [u16; 14],
     lasts: &mut [usize; 5],
     starts: &mut [usize; 4],
@@ -191,9 +191,9 @@ pub fn step(
     requires { ⌜ settings .xwords ≤ length (now memory) ⌝ }
     requires { ⌜ limits ≡ limitsFor (settings .traps) (f .mode) ⌝ }
     requires { ⌜ Accumulators (now acc) ⌝ }
-    requires { ⌜ Twos (now acc) (now over) (now sat) ⌝ }
+    requires { ⌜ Twos (now acc) (now oflags) (now sflags) ⌝ }
     requires { ⌜ Standing f (now starts) (now lasts) ⌝ }
-    ensures { λ r. ⌜ ((p : List Operation) → Follows p (now (code .entry)) at f (now (starts .entry)) (now (lasts .entry)) → Turns p settings f (record { w = now (w .entry); acc = now (acc .entry); over = now (over .entry); sat = now (sat .entry); starts = now (starts .entry); passes = now (passes .entry); lasts = now (lasts .entry); memory = now (memory .entry) }) (record { w = now (w .exit); acc = now (acc .exit); over = now (over .exit); sat = now (sat .exit); starts = now (starts .exit); passes = now (passes .exit); lasts = now (lasts .exit); memory = now (memory .exit) }) r) ⌝ }
+    ensures { λ r. ⌜ ((p : List Operation) → Follows p (now (code .entry)) at f (now (starts .entry)) (now (lasts .entry)) → Turns p settings f (record { w = now (w .entry); acc = now (acc .entry); oflags = now (oflags .entry); sflags = now (sflags .entry); starts = now (starts .entry); passes = now (passes .entry); lasts = now (lasts .entry); memory = now (memory .entry) }) (record { w = now (w .exit); acc = now (acc .exit); oflags = now (oflags .exit); sflags = now (sflags .exit); starts = now (starts .exit); passes = now (passes .exit); lasts = now (lasts .exit); memory = now (memory .exit) }) r) ⌝ }
 {
     let which = kind(code, at);
     if which < 19 {
@@ -204,8 +204,8 @@ pub fn step(
             limits,
             f,
             acc,
-            over,
-            sat,
+            oflags,
+            sflags,
             w,
             lasts,
             starts,
@@ -216,5 +216,5 @@ pub fn step(
     if which < 23 {
         return step_begin(code, at, f, w, lasts, starts, passes);
     }
-    step_control(code, at, f, sat, lasts, starts, passes)
+    step_control(code, at, f, sflags, lasts, starts, passes)
 }

@@ -1,8 +1,8 @@
 // Cases from standard input, in each of which one step is made, answered by a line on standard output.
+use engine::single::single_step;
 use libc::STDIN_FILENO;
 use libc::STDOUT_FILENO;
 use lines::line;
-use machine::single::single_step;
 use stream::header;
 use stream::memory::fill;
 use text::buffer::LINE;

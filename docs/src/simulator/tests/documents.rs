@@ -1,6 +1,7 @@
 //! The documents beside the proved code: docs/GUARANTEES.md has every public function
 //! that asks something of its caller, docs/TRACE.md names what stands in the tree, a
-//! name is defined in one file of definitions, and no table stands in code or definitions.
+//! name is defined in one file of definitions, no table stands in code or definitions, and
+//! what steps takes no bytes.
 
 use std::collections::{BTreeMap, BTreeSet};
 use std::fs;
@@ -276,4 +277,61 @@ fn no_table_stands_in_the_code() {
             }
         }
     }
+}
+
+/// The crates of what steps.
+const STEPPING: [&str; 6] = [
+    "fields",
+    "products",
+    "moves",
+    "sequencer",
+    "stepping",
+    "legs",
+];
+
+/// Whether a source, comments left out, has a slice or an array of bytes: as the type of a
+/// parameter or a local, or as a list whose first item is a byte.
+fn has_bytes(source: &str) -> bool {
+    let code = source.lines().map(|line| line.split("//").next().unwrap());
+    let code: String = code.flat_map(str::split_whitespace).collect();
+    let mut brackets = code.split('[').skip(1);
+    let first = |inside: &str| inside.split([',', ';', ']']).next().unwrap().to_string();
+    brackets.any(|inside| first(inside).ends_with("u8"))
+}
+
+#[test]
+fn bytes_are_seen() {
+    let with = [
+        "fn f(file: &[u8], at: usize) -> u16 {",
+        "fn f(\n    to: &mut [u8],\n)",
+        "let b: [u8; 4] = g(x);",
+        "let mut b = [ 0u8 ; 8 ];",
+        "let b = [x as u8, y as u8];",
+        "fn f(files: &[[u8; 512]])",
+    ];
+    for source in with {
+        assert!(has_bytes(source), "{source}");
+    }
+    let without = [
+        "fn f(code: &[u16], trap: u8) -> [usize; 4] {",
+        "// lent as `&[u8]`\nfn f(w: &mut [u16; 14]) {}",
+        "let t: u8 = traps[i] as u8;",
+    ];
+    for source in without {
+        assert!(!has_bytes(source), "{source}");
+    }
+}
+
+/// So it is not lent the file, which is bytes.
+#[test]
+fn what_steps_takes_no_bytes() {
+    for krate in STEPPING {
+        let files = names(&format!("crates/{krate}/src"));
+        assert!(files.len() > 1, "{krate} has no source");
+        for file in files {
+            let place = format!("crates/{krate}/src/{file}");
+            assert!(!has_bytes(&text(&place)), "{place} has bytes");
+        }
+    }
+    assert!(has_bytes(&text("crates/form/src/decode.rt")));
 }

@@ -3,15 +3,14 @@ use mathlib.Core.Path.{_≡_, sym, _∙_}
 use Prim.Native.Nat.{_*_, _≤_}
 use native.Mathlib.Omega.{arith}
 use lib.ListN.{length}
-use Rattle.program.specs.File.{operationCount, programOf}
-use Rattle.program.proofs.Accepted.{accepted-blocks, program-length}
+use Rattle.program.specs.File.{operationCount}
+use Rattle.program.proofs.Accepted.{accepted-blocks}
 use Rattle.program.proofs.Places.{count-range}
 use Rattle.state.specs.Typed.{AreWords}
 use Rattle.state.proofs.Typing.{typed-state}
 use Rattle.machine.specs.Single.{callRefusal}
-use Rattle.machine.proofs.Calls.{call-file, call-state}
-use Rattle.machine.proofs.Stands.{accepted-stands}
-use Rattle.engine.proofs.Windows.{whole-runnable, decoded-refused, decoded-short, decoded-runs}
+use Rattle.machine.proofs.Calls.{call-file, call-settings, call-state}
+use Rattle.engine.proofs.Windows.{x-part-in, whole-window, decoded-refused, decoded-short, decoded-runs}
 use borrow.Author.Needs.{needs}
 use Rattle.engine.proofs.decoded.run_decoded.Statement.{statement}
 use Rattle.engine.proofs.decoded.run_decoded.Tie as tie
@@ -53,45 +52,34 @@ decode-program-requires c κs =
     sym (c .before .before .before .before .refusal .ensures) ∙ c .before .before .before .if1 .left in
     (call-file _ _ _ _ none, rw (c .before .before .operation-count .ensures) at (c .before .if2 .left))
 
-lasts-of-requires : tie.Need-lasts-of-requires
-lasts-of-requires c κs =
-    let entry = c .before .before .before .before .before .before .before .before .before .before .before .before .before .before in
-    let s = entry .args .state in
-    let none : callRefusal (entry .args .file .now) (entry .args .settings) (entry .args .state) (length (entry .args .memory .now)) ≡ 0 =
-    sym (c .before .before .before .before .before .before .before .before .before .before .refusal .ensures) ∙ c .before .before .before .before .before .before .before .before .before .if1 .left in
-    let accepted = call-file _ _ _ _ none in
-    let stands = accepted-stands (programOf (entry .args .file .now)) s (typed-state s _ (entry .good .1 .1 .0)) (call-state _ _ _ _ none) in
-    let most = stands .at in
-    let nested = stands .nested in
-    (accepted, (nested .four .0, (nested .few, λ j l. let k = nested .begun j l in omega (arith, k, most, program-length (entry .args .file .now) accepted))))
-
-run-words-requires : tie.Need-run-words-requires
-run-words-requires c κs =
-    let entry = c .before .before .before .before .before .before .before .before .before .before .before .before .before .before .before .before .before in
+run-accepted-requires : tie.Need-run-accepted-requires
+run-accepted-requires c κs =
+    let entry = c .before .before .before .before .before .before .before .before .before .before .before .before .before in
     let file = entry .args .file .now in
     let none : callRefusal (entry .args .file .now) (entry .args .settings) (entry .args .state) (length (entry .args .memory .now)) ≡ 0 =
-    sym (c .before .before .before .before .before .before .before .before .before .before .before .before .before .refusal .ensures) ∙ c .before .before .before .before .before .before .before .before .before .before .before .before .if1 .left in
+    sym (c .before .before .before .before .before .before .before .before .before .refusal .ensures) ∙ c .before .before .before .before .before .before .before .before .if1 .left in
     let accepted = call-file _ _ _ _ none in
-    let lasts = c .before .before .lasts-of .ensures in
-    rw (c .before .before .before .before .before .before .before .before .before .before .before .operation-count .ensures)
-    (record { program = programOf file; runnable = whole-runnable file _ _ accepted (c .before .before .before .before .before .before .before .before .decode-program .ensures) none lasts })
+    let count = c .before .before .before .before .before .before .before .operation-count .ensures in
+    let room : 16 * operationCount file ≤ length (entry .args .words .now) = rw count at (c .before .before .before .before .before .before .if2 .left) in
+    let one = count-range file (accepted-blocks file accepted) .0 in
+    let long = c .before .before .before .before .decode-program .kept .1 .0 in
+    (accepted, (call-state _ _ _ _ none, (x-part-in _ _ (call-settings _ _ _ _ none), (rw count (whole-window file _ _ accepted (c .before .before .before .before .decode-program .ensures)), omega (arith, room, one, long)))))
 
 returns-3 : tie.Need-returns-3
 returns-3 c =
-    let entry = c .before .before .before .before .before .before .before .before .before .before .before .before .before .before .before .before .before .before .before .before in
+    let entry = c .before .before .before .before .before .before .before .before .before .before .before .before .before .before .before .before .before .before in
     let a = entry .args in
     let file = a .file .now in
     let none : callRefusal (entry .args .file .now) (entry .args .settings) (entry .args .state) (length (entry .args .memory .now)) ≡ 0 =
-    sym (c .before .before .before .before .before .before .before .before .before .before .before .before .before .before .before .before .refusal .ensures) ∙ c .before .before .before .before .before .before .before .before .before .before .before .before .before .before .before .if1 .left in
+    sym (c .before .before .before .before .before .before .before .before .before .before .before .before .before .before .refusal .ensures) ∙ c .before .before .before .before .before .before .before .before .before .before .before .before .before .if1 .left in
     let accepted = call-file _ _ _ _ none in
-    let lasts = c .before .before .before .before .before .lasts-of .ensures in
-    let decoded = c .before .before .before .before .before .before .before .before .before .before .before .decode-program .ensures in
-    let count = c .before .before .before .before .before .before .before .before .before .before .before .before .before .before .operation-count .ensures in
+    let count = c .before .before .before .before .before .before .before .before .before .before .before .before .operation-count .ensures in
     let typed = typed-state (a .state) _ (entry .good .1 .1 .0) in
-    let ram : AreWords (a .memory .now) = λ i. omega (arith, c .before .before .before .before .before .before .before .before .before .before .before .before .before .before .before .before .before .before .slice-known .given i) in
-    let room : 16 * operationCount file ≤ length (a .words .now) = rw count at (c .before .before .before .before .before .before .before .before .before .before .before .before .before .if2 .left) in
-    let is = c .before .before .run-words .ensures (programOf file) (rw count (whole-runnable file _ _ accepted decoded none lasts)) in
-    decoded-runs file (a .settings) (a .state) (a .memory .now) (a .budget) (a .words .now) none room typed ram _ _ _ is decoded
+    let ram : AreWords (a .memory .now) = λ i. omega (arith, c .before .before .before .before .before .before .before .before .before .before .before .before .before .before .before .before .slice-known .given i) in
+    let room : 16 * operationCount file ≤ length (a .words .now) = rw count at (c .before .before .before .before .before .before .before .before .before .before .before .if2 .left) in
+    let ran = c .before .before .before .before .run-accepted .ensures in
+    decoded-runs file (a .settings) (a .state) (a .memory .now) (a .budget) (a .words .now) none room typed ram _ _ _ (ran .0)
+    (ran .1 (rw count) ∙ c .before .before .before .before .before .before .before .before .before .decode-program .ensures)
 
 pub run-decoded-spec : {M : Type 1} → statement M
 run-decoded-spec =
@@ -105,8 +93,7 @@ run-decoded-spec =
     (λ c κs. search needs)
     returns-2
     decode-program-requires
-    lasts-of-requires
-    run-words-requires
+    run-accepted-requires
     (λ c. search needs)
     (λ c. search needs)
     returns-3)

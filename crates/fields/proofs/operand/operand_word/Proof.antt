@@ -7,7 +7,6 @@ use Rattle.address.specs.Region.{allWords}
 use Rattle.address.proofs.Regions.{free-word}
 use Rattle.effects.specs.Access.{wordAt}
 use Rattle.fields.proofs.Operands.{register-operand, memory-operand}
-use borrow.Author.Needs.{needs}
 use Rattle.fields.proofs.operand.operand_word.Statement.{statement}
 use Rattle.fields.proofs.operand.operand_word.Tie as tie
 

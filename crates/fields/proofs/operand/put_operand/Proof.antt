@@ -1,5 +1,4 @@
 -- `operand::put_operand` meets its contract: to the register, or to memory. Assumes nothing.
-use mathlib.Core.Path.{refl}
 use Prim.Native.Nat.{_<_}
 use native.Mathlib.Omega.{arith}
 use denote.Ref.{now}

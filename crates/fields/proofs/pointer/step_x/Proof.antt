@@ -1,6 +1,6 @@
 -- `pointer::step_x` meets its contract: a pointer moves, no read and a sum leave all as it is. Assumes nothing.
 use denote.Ref.{now}
-use Rattle.effects.specs.declared.access.Space.the-variants.{X, Y}
+use Rattle.effects.specs.declared.access.Space.the-variants.{X}
 use Rattle.fields.proofs.Pointers.{pointer-moves, pointer-stays}
 use borrow.Author.Needs.{needs}
 use Rattle.fields.proofs.pointer.step_x.Statement.{statement}

@@ -1,5 +1,4 @@
 -- `read::word_at` meets its contract: the address is a word's. Assumes nothing.
-use native.Mathlib.Omega.{arith}
 use borrow.Author.Needs.{needs}
 use Rattle.fields.proofs.read.word_at.Statement.{statement}
 use Rattle.fields.proofs.read.word_at.Tie as tie

@@ -1,11 +1,10 @@
 -- `read::x_read` meets its contract: none, or a read at the pointer or the sum. Assumes nothing.
 use mathlib.Core.Path.{refl}
-use native.Mathlib.Omega.{arith}
 use borrow.Author.Tests.{eq-eqb}
 use denote.Ref.{now}
 use lib.ListN.{length}
 use Rattle.effects.specs.Access.{prefetchAccess, wordAt}
-use Rattle.effects.specs.declared.access.Space.the-variants.{X, Y}
+use Rattle.effects.specs.declared.access.Space.the-variants.{X}
 use Rattle.fields.proofs.Accesses.{prefetch-reads}
 use borrow.Author.Needs.{needs}
 use Rattle.fields.proofs.read.x_read.Statement.{statement}

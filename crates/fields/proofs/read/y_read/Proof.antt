@@ -5,7 +5,7 @@ use borrow.Author.Tests.{eq-eqb}
 use denote.Ref.{now}
 use lib.ListN.{length}
 use Rattle.effects.specs.Access.{prefetchAccess, wordAt}
-use Rattle.effects.specs.declared.access.Space.the-variants.{X, Y}
+use Rattle.effects.specs.declared.access.Space.the-variants.{Y}
 use Rattle.fields.proofs.Accesses.{prefetch-reads}
 use borrow.Author.Needs.{needs}
 use Rattle.fields.proofs.read.y_read.Statement.{statement}

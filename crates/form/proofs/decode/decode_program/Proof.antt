@@ -1,27 +1,22 @@
 -- `decode::decode_program` meets its contract. The invariant: the words of the operations so far, and then the words that `to` had.
 use native.Mathlib.Omega.{arith}
-use Prim.Native.Nat.{_≤_, _<_, _+_, _-_, _*_}
+use Prim.Native.Nat.{_≤_, _<_, _-_, _*_}
 use mathlib.Core.Path.{_≡_, refl, sym, _∙_}
-use native.Mathlib.Nat.{le-trans}
-use native.Mathlib.Numerals.{add-one}
 use lib.ListN.{length, length-take, length-drop}
 use borrow.Rule.Slice.PartMut.{same-len-mid}
 use Rattle.program.specs.Bytes.{over}
 use Rattle.program.specs.File.{operationCount, programOf}
 use Rattle.program.specs.Layout.{bytesOf, operationsIn}
 use Rattle.program.specs.declared.layout.Layout.the-variants.{Blocks}
-use Rattle.program.proofs.Accepted.{accepted-blocks}
-use Rattle.program.proofs.Places.{place-inside, count-range, span-inside}
+use Rattle.operations.specs.declared.operation.Operation.the-variants.{EndEarly}
+use Rattle.program.proofs.Accepted.{accepted-blocks, program-nth}
+use Rattle.program.proofs.Places.{count-range}
 use Rattle.program.proofs.Slices.{over-more}
 use Rattle.form.specs.Words.{wordsOfBytes}
 use Rattle.form.specs.Form.{formOf}
-use Rattle.form.proofs.Programs.{first-length, first-more}
+use Rattle.form.proofs.Programs.{first-length, first-more, bytes-again}
 use Rattle.form.proofs.decode.decode_program.Statement.{statement}
 use Rattle.form.proofs.decode.decode_program.Tie as tie
-use Rattle.form.proofs.decode.decode_program.Reads as reads
-use Rattle.form.proofs.decode.decode_program.Lts as lts
-use Rattle.form.proofs.decode.put_operation.Reads as put-operation-reads
-use Rattle.loader.proofs.file.operation_count.Reads as operation-count-reads
 
 abbrev Inv-loop : tie.InvT-loop
 Inv-loop file to₀ n i₀ to i = (n ≡ operationCount file) × (i ≤ n) × (n ≤ 4032) × (to ≡ over (formOf (operationsIn Blocks file i)) to₀) × (length to ≡ length to₀)
@@ -38,22 +33,18 @@ loop-holds c =
     let blocks = accepted-blocks (entry .args .file .now) (entry .pre .0) in
     (c .operation-count .ensures, omega arith, omega (arith, c .operation-count .ensures, count-range (entry .args .file .now) blocks .1), refl, refl)
 
-sub-put-operation : tie.Need-sub-put-operation Inv-loop μ-loop
-sub-put-operation c = omega arith
+sub-decode-operation : tie.Need-sub-decode-operation Inv-loop μ-loop
+sub-decode-operation c = omega arith
 
-part-put-operation-start : tie.Need-part-put-operation-start Inv-loop μ-loop
-part-put-operation-start c = omega arith
+part-decode-operation-start : tie.Need-part-decode-operation-start Inv-loop μ-loop
+part-decode-operation-start c = omega arith
 
-put-operation-requires : tie.Need-put-operation-requires Inv-loop μ-loop
-put-operation-requires c κs =
+decode-operation-requires : tie.Need-decode-operation-requires Inv-loop μ-loop
+decode-operation-requires c κs =
     let at = c .before .before in
     let entry = at .before .before .before .before in
-    let file = entry .args .file .now in
-    let blocks = accepted-blocks file (entry .pre .0) in
-    let before : at .loop .i < operationCount file = omega arith in (
-      le-trans (place-inside Blocks (operationCount file) (at .loop .i) before) (span-inside file blocks),
-      simp (length-take, length-drop) (omega arith),
-    )
+    let before : at .loop .i < operationCount (entry .args .file .now) = omega arith in
+    (entry .pre .0, (before, simp (length-take, length-drop) (omega arith)))
 
 loop-again : tie.Need-loop-again Inv-loop μ-loop
 loop-again c =
@@ -63,14 +54,15 @@ loop-again c =
     let file = entry .args .file .now in
     let i = at .loop .i in
     let to = at .loop .to in
-    let last = put .put-operation .last .1 .1 .0 in
+    let last = put .decode-operation .last .1 .1 .0 in
     let before : i < operationCount file = omega arith in (
       at .loop .inv .0,
       omega arith,
       at .loop .inv .2,
       rw (first-more file (entry .pre .0) i before)
-          (over-more (formOf (operationsIn Blocks file i)) (wordsOfBytes (bytesOf Blocks file i)) (entry .args .to .now) to last (16 * i) (sym (first-length file (entry .pre .0) i)) (at .loop .inv .3) (put .put-operation .ensures)),
-      same-len-mid (16 * i) (length to - 16 * i) to last (put .put-operation .kept .1 .1 .0) ∙ at .loop .inv .4,
+          (over-more (formOf (operationsIn Blocks file i)) (wordsOfBytes (bytesOf Blocks file i)) (entry .args .to .now) to last (16 * i) (sym (first-length file (entry .pre .0) i)) (at .loop .inv .3)
+          (rw (program-nth file (entry .pre .0) i EndEarly before, bytes-again file (entry .pre .0) i before) at (put .decode-operation .ensures EndEarly))),
+      same-len-mid (16 * i) (length to - 16 * i) to last (put .decode-operation .kept .1 .1 .0) ∙ at .loop .inv .4,
     )
 
 same-length : tie.Need-same-length Inv-loop μ-loop
@@ -94,14 +86,10 @@ decode-program-spec =
     loop-holds
     (λ c. omega arith)
     (λ c. omega arith)
+    sub-decode-operation
+    part-decode-operation-start
     (λ c. omega arith)
-    (λ c. omega arith)
-    (λ c. omega arith)
-    (λ c. omega arith)
-    sub-put-operation
-    part-put-operation-start
-    (λ c. omega arith)
-    put-operation-requires
+    decode-operation-requires
     (λ c. omega arith)
     (λ c. omega arith)
     loop-again

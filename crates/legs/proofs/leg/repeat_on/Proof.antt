@@ -1,13 +1,11 @@
 -- `leg::repeat_on` meets its contract. The invariant: for every such program the run goes on from what is held, at the same operation. Assumes nothing.
-use mathlib.Core.Bool.{_||_}
 use mathlib.Core.List.{List}
 use mathlib.Core.Path.{_≡_, refl, sym, _∙_, subst}
-use Prim.Native.Nat.{ℕ, _-_, _+_, _*_, _≤_, _<_}
+use Prim.Native.Nat.{ℕ, _-_, _+_, _*_, _<_}
 use native.Mathlib.Omega.{arith}
 use borrow.Author.Tests.{not-true, not-false, ltb-false, eqb-false}
 use denote.Ref.{now}
 use lib.Dec.{ltb, eqb}
-use lib.ListN.{length}
 use Rattle.integers.proofs.Whole.{neither}
 use Rattle.operations.specs.declared.operation.Operation.{Operation}
 use Rattle.sequencer.specs.Settled.{limitsFor}
@@ -15,14 +13,13 @@ use Rattle.sequencer.specs.Standing.{Follows}
 use Rattle.stepping.specs.Turned.{Held}
 use Rattle.legs.specs.Leg.{Window, Stood}
 use Rattle.legs.proofs.Legs.{Way, way-begins, goes-onward, goes-over, goes-last, goes-next, encoded, follows, accumulators}
-use borrow.Author.Needs.{needs}
 use Rattle.legs.proofs.leg.repeat_on.Statement.{statement}
 use Rattle.legs.proofs.leg.repeat_on.Tie as tie
 
 abbrev Inv-loop : tie.InvT-loop
-Inv-loop code first count settings limits steps budget acc₀ over₀ sat₀ w₀ lasts starts passes memory at f₀ made₀ acc over sat w f made =
-    let h₀ : Held = record { w = w₀; acc = acc₀; over = over₀; sat = sat₀; starts = starts; passes = passes; lasts = lasts; memory = memory } in
-    let h : Held = record { w = w; acc = acc; over = over; sat = sat; starts = starts; passes = passes; lasts = lasts; memory = memory } in
+Inv-loop code first count settings limits steps budget acc₀ oflags₀ sflags₀ w₀ lasts starts passes memory at f₀ made₀ acc oflags sflags w f made =
+    let h₀ : Held = record { w = w₀; acc = acc₀; oflags = oflags₀; sflags = sflags₀; starts = starts; passes = passes; lasts = lasts; memory = memory } in
+    let h : Held = record { w = w; acc = acc; oflags = oflags; sflags = sflags; starts = starts; passes = passes; lasts = lasts; memory = memory } in
     ((p : List Operation) → Window p code first count → Stood p settings h₀ f₀ → Way p settings budget h₀ f₀ steps h f made)
     × (limits ≡ limitsFor (settings .traps) (f .mode))
     × (made < budget)
@@ -30,7 +27,7 @@ Inv-loop code first count settings limits steps budget acc₀ over₀ sat₀ w�
     × (f .pc ≡ f₀ .pc)
 
 abbrev μ-loop : tie.MeasureT-loop
-μ-loop code first count settings limits steps budget acc₀ over₀ sat₀ w₀ lasts starts passes memory at f₀ made₀ acc over sat w f made =
+μ-loop code first count settings limits steps budget acc₀ oflags₀ sflags₀ w₀ lasts starts passes memory at f₀ made₀ acc oflags sflags w f made =
     budget - made
 
 sub-at : tie.Need-sub-at Inv-loop μ-loop
@@ -61,7 +58,7 @@ step-pair-requires c κs =
         pre .1 .1 .1 .1 .1 .1,
         (
           way .part,
-          (inv .1, (accumulators way (known .window) low high, (way .pairs, inv .3))),
+          (inv .1, (accumulators way (known .window) low high, (way .twos, inv .3))),
         ),
       ),
     )
@@ -80,8 +77,8 @@ returns c =
     let turns = turn .ensures .0 p (now (a .starts)) (now (a .passes)) (now (a .lasts)) (subst (λ (n : ℕ). Follows p (now (a .code)) (16 * (n - a .first)) (at-loop .loop .f) (now (a .starts)) (now (a .lasts))) (inv .4) (follows way window low high)) in
     rw (c .ended .ensures) (goes-over way window low high (λ e. omega (arith, inv .2, e)) _ (turn .result) turns (not-true _ (c .before .if1 .taken)))
 
-add-done : tie.Need-add-done Inv-loop μ-loop
-add-done c =
+add-total : tie.Need-add-total Inv-loop μ-loop
+add-total c =
     let at-loop = c .before .before .before .before .before .before .before .before in
     omega (arith, at-loop .loop .inv .2, at-loop .before .before .before .before .fits .budget .fits)
 
@@ -112,7 +109,7 @@ returns-3 c =
     let way = inv .0 p window stood in
     let turns = turn .ensures .0 p (now (a .starts)) (now (a .passes)) (now (a .lasts)) (subst (λ (n : ℕ). Follows p (now (a .code)) (16 * (n - a .first)) (at-loop .loop .f) (now (a .starts)) (now (a .lasts))) (inv .4) (follows way window low high)) in
     let next = goes-next way window low high (λ e. omega (arith, inv .2, e)) _ (turn .result) turns (not-false _ (c .before .before .before .before .if1 .left)) (c .before .before .before .if2 .left) in
-    rw (c .ended3 .ensures) (goes-onward next _ _ (omega (arith, way .onward)))
+    rw (c .ended3 .ensures) (goes-onward next _ _ (omega (arith, way .forward)))
 
 loop-less : tie.Need-loop-less Inv-loop μ-loop
 loop-less c = omega (arith, c .before .before .before .before .before .before .before .before .before .before .before .loop .inv .2)
@@ -129,13 +126,13 @@ loop-again c =
     let known = pre .0 in
     let known-way = inv .0 (known .program) (known .window) (known .stood) in
     let known-turns = turn .ensures .0 (known .program) (now (a .starts)) (now (a .passes)) (now (a .lasts)) (subst (λ (n : ℕ). Follows (known .program) (now (a .code)) (16 * (n - a .first)) (at-loop .loop .f) (now (a .starts)) (now (a .lasts))) (inv .4) (follows known-way (known .window) low high)) in
-    let rest = neither (ltb (turn .result .flow .repeat) 2) (eqb (at-loop .loop .done + 1) (a .budget)) (c .if3 .left) in (
+    let rest = neither (ltb (turn .result .flow .repeat) 2) (eqb (at-loop .loop .total + 1) (a .budget)) (c .if3 .left) in (
       (λ p window stood.
           let way = inv .0 p window stood in
           let turns = turn .ensures .0 p (now (a .starts)) (now (a .passes)) (now (a .lasts)) (subst (λ (n : ℕ). Follows p (now (a .code)) (16 * (n - a .first)) (at-loop .loop .f) (now (a .starts)) (now (a .lasts))) (inv .4) (follows way window low high)) in
           goes-next way window low high (λ e. omega (arith, inv .2, e)) _ (turn .result) turns (not-false _ (c .before .before .before .if1 .left)) (c .before .before .if2 .left)),
       rw (known-turns .mode (turn .ensures .1 .1)) (inv .1),
-      omega (arith, inv .2, eqb-false (at-loop .loop .done + 1) (a .budget) (rest .1)),
+      omega (arith, inv .2, eqb-false (at-loop .loop .total + 1) (a .budget) (rest .1)),
       omega (arith, ltb-false (turn .result .flow .repeat) 2 (rest .0)),
       turn .ensures .1 .0 ∙ inv .4,
     )
@@ -152,7 +149,7 @@ repeat-on-spec =
     step-pair-requires
     (λ c κs. tt)
     returns
-    add-done
+    add-total
     (λ c κs. tt)
     returns-2
     (λ c κs. tt)

@@ -12,13 +12,13 @@ use Rattle.legs.proofs.leg.run_on.Statement.{statement}
 use Rattle.legs.proofs.leg.run_on.Tie as tie
 
 abbrev Inv-loop : tie.InvT-loop
-Inv-loop code first count settings steps budget acc₀ over₀ sat₀ w₀ lasts₀ starts₀ passes₀ memory₀ f₀ made₀ acc over sat w lasts starts passes memory f made =
-    let h₀ : Held = record { w = w₀; acc = acc₀; over = over₀; sat = sat₀; starts = starts₀; passes = passes₀; lasts = lasts₀; memory = memory₀ } in
-    let h : Held = record { w = w; acc = acc; over = over; sat = sat; starts = starts; passes = passes; lasts = lasts; memory = memory } in
+Inv-loop code first count settings steps budget acc₀ oflags₀ sflags₀ w₀ lasts₀ starts₀ passes₀ memory₀ f₀ made₀ acc oflags sflags w lasts starts passes memory f made =
+    let h₀ : Held = record { w = w₀; acc = acc₀; oflags = oflags₀; sflags = sflags₀; starts = starts₀; passes = passes₀; lasts = lasts₀; memory = memory₀ } in
+    let h : Held = record { w = w; acc = acc; oflags = oflags; sflags = sflags; starts = starts; passes = passes; lasts = lasts; memory = memory } in
     (p : List Operation) → Window p code first count → Stood p settings h₀ f₀ → Way p settings budget h₀ f₀ steps h f made
 
 abbrev μ-loop : tie.MeasureT-loop
-μ-loop code first count settings steps budget acc₀ over₀ sat₀ w₀ lasts₀ starts₀ passes₀ memory₀ f₀ made₀ acc over sat w lasts starts passes memory f made =
+μ-loop code first count settings steps budget acc₀ oflags₀ sflags₀ w₀ lasts₀ starts₀ passes₀ memory₀ f₀ made₀ acc oflags sflags w lasts starts passes memory f made =
     budget - made
 
 loop-holds : tie.Need-loop-holds Inv-loop μ-loop
@@ -63,7 +63,7 @@ loop-again c =
     let leg = c .before .before .before .before .before .leg-on in
     λ p window stood.
     let way = at-loop .loop .inv p window stood in
-    way-along way (sym (c .before .is-onward .ensures) ∙ not-false _ (c .if1 .left)) (leg .ensures p window (way-stood way))
+    way-along way (leg .ensures p window (way-stood way)) (rw (sym (c .before .is-onward .ensures) ∙ not-false _ (c .if1 .left)))
 
 pub run-on-spec : {M : Type 1} → statement M
 run-on-spec =

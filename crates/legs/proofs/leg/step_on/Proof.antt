@@ -13,14 +13,14 @@ use Rattle.legs.proofs.leg.step_on.Statement.{statement}
 use Rattle.legs.proofs.leg.step_on.Tie as tie
 
 abbrev Inv-loop : tie.InvT-loop
-Inv-loop code first count settings limits steps budget acc₀ over₀ sat₀ w₀ lasts₀ starts₀ passes₀ memory₀ f₀ made₀ acc over sat w lasts starts passes memory f made =
-    let h₀ : Held = record { w = w₀; acc = acc₀; over = over₀; sat = sat₀; starts = starts₀; passes = passes₀; lasts = lasts₀; memory = memory₀ } in
-    let h : Held = record { w = w; acc = acc; over = over; sat = sat; starts = starts; passes = passes; lasts = lasts; memory = memory } in
+Inv-loop code first count settings limits steps budget acc₀ oflags₀ sflags₀ w₀ lasts₀ starts₀ passes₀ memory₀ f₀ made₀ acc oflags sflags w lasts starts passes memory f made =
+    let h₀ : Held = record { w = w₀; acc = acc₀; oflags = oflags₀; sflags = sflags₀; starts = starts₀; passes = passes₀; lasts = lasts₀; memory = memory₀ } in
+    let h : Held = record { w = w; acc = acc; oflags = oflags; sflags = sflags; starts = starts; passes = passes; lasts = lasts; memory = memory } in
     ((p : List Operation) → Window p code first count → Stood p settings h₀ f₀ → Way p settings budget h₀ f₀ steps h f made)
     × (limits ≡ limitsFor (settings .traps) (f .mode))
 
 abbrev μ-loop : tie.MeasureT-loop
-μ-loop code first count settings limits steps budget acc₀ over₀ sat₀ w₀ lasts₀ starts₀ passes₀ memory₀ f₀ made₀ acc over sat w lasts starts passes memory f made =
+μ-loop code first count settings limits steps budget acc₀ oflags₀ sflags₀ w₀ lasts₀ starts₀ passes₀ memory₀ f₀ made₀ acc oflags sflags w lasts starts passes memory f made =
     budget - made
 
 loop-holds : tie.Need-loop-holds Inv-loop μ-loop
@@ -85,7 +85,7 @@ step-requires c κs =
     let words = encoded way (known .window) (here .0) (here .1) in
     let sums = accumulators way (known .window) (here .0) (here .1) in
     let flow = standing way (known .window) (here .0) (here .1) in
-    (words, (rw (way .along .fit .long) (way .part), (at-loop .loop .inv .1, (sums, (way .pairs, flow)))))
+    (words, (rw (way .along .fit .long) (way .part), (at-loop .loop .inv .1, (sums, (way .twos, flow)))))
 
 same-length-3 : tie.Need-same-length-3 Inv-loop μ-loop
 same-length-3 c =
@@ -144,7 +144,7 @@ returns-5 c =
     λ p window stood.
     let way = at-loop .loop .inv .0 p window stood in
     let next = goes-next way window (here .0) (here .1) (c .before .before .before .before .before .before .before .before .before .before .before .before .before .before .before .before .before .if2 .left) _ (at-step .step .result) (at-step .step .ensures p (follows way window (here .0) (here .1))) (not-false _ (c .before .before .before .if3 .left)) (c .before .before .if4 .left) in
-    rw (c .ended5 .ensures) (goes-onward next (a .first) (a .count) (omega (arith, way .onward)))
+    rw (c .ended5 .ensures) (goes-onward next (a .first) (a .count) (omega (arith, way .forward)))
 
 loop-less : tie.Need-loop-less Inv-loop μ-loop
 loop-less c =

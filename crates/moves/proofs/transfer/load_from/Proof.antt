@@ -52,9 +52,9 @@ returns-2 c =
     let free = c .before .before .before .before .before .before .if1 .left in
     let word = c .before .before .word .ensures in
     let registers = rw (load .ensures .moves, eq-eqb (load .result .trap) 0 free, word, load .ensures .reads .word free) at (c .before .set-register .ensures) in
-    λ mode. load-leaves (entry .pre .0) (a .settings) mode (now (a .acc)) (now (a .w)) (now (a .memory)) (c .trapped2 .result) _
+    λ mode. load-leaves (entry .pre .0) (a .settings) mode (now (a .acc)) (now (a .w)) (now (a .memory)) (c .no-result .result) _
     (load .result .trap) (load .ensures .reads .trap) free
-    (sym (c .before .before .before .before .before .kind .ensures) ∙ c .before .before .before .before .if2 .taken) registers (c .trapped2 .ensures)
+    (sym (c .before .before .before .before .before .kind .ensures) ∙ c .before .before .before .before .if2 .taken) registers (c .no-result .ensures)
 
 shift-small : (c : tie.After-word2) → c .word2 .result < 16
 shift-small c =

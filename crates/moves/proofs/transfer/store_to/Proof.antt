@@ -69,8 +69,8 @@ returns-2 c =
     let moved = rw (r, form) at (c .before .before .before .before .before .before .step-operand .ensures w (length memory) held) in
     let registers = rw (r, form, moved, x) at (put .ensures .0 (a .settings) Storing w held) in
     let words = rw (r, form, x) at (put .ensures .1 (a .settings) Storing w held) in
-    store-leaves (entry .pre .0) (a .settings) (a .mode) (now (a .acc)) w memory (c .trapped2 .result) _ _ (at-trap .operand-trap .result)
-    (entry .pre .1 .0) (trap at-trap) (at-word .before .before .if1 .left) registers words (c .trapped2 .ensures)
+    store-leaves (entry .pre .0) (a .settings) (a .mode) (now (a .acc)) w memory (c .no-result .result) _ _ (at-trap .operand-trap .result)
+    (entry .pre .1 .0) (trap at-trap) (at-word .before .before .if1 .left) registers words (c .no-result .ensures)
 
 pub store-to-spec : {M : Type 1} → statement M
 store-to-spec =

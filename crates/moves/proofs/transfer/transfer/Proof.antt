@@ -16,9 +16,9 @@ returns : tie.Need-returns
 returns c =
     let entry = c .before .before .before .before .before .before .before .before .before in
     let a = entry .args in
-    literal-leaves (entry .pre .0) (a .settings) (a .mode) (now (a .acc)) (now (a .w)) (now (a .memory)) (c .trapped .result) _
+    literal-leaves (entry .pre .0) (a .settings) (a .mode) (now (a .acc)) (now (a .w)) (now (a .memory)) (c .no-result .result) _
     (sym (c .before .before .before .before .before .before .kind .ensures) ∙ c .before .before .before .before .before .if1 .taken)
-    (rw (c .before .before .before .word .ensures, c .before .before .word2 .ensures) at (c .before .set-register .ensures)) (c .trapped .ensures)
+    (rw (c .before .before .before .word .ensures, c .before .before .word2 .ensures) at (c .before .set-register .ensures)) (c .no-result .ensures)
 
 load-from-requires : tie.Need-load-from-requires
 load-from-requires c κs =

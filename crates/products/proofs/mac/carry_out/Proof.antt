@@ -4,7 +4,8 @@ use denote.Ref.{now}
 use lib.ListN.{length}
 use Rattle.effects.specs.Mac.{macAccesses}
 use Rattle.form.specs.Words.{field, macIn}
-use Rattle.products.proofs.Ranges.{within, accumulator-kept, product-kept}
+use Rattle.fields.proofs.Accumulators.{within}
+use Rattle.products.proofs.Ranges.{accumulator-kept, product-kept}
 use Rattle.products.proofs.WriteBacks.{free-back}
 use Rattle.products.proofs.Works.{mac-carries}
 use borrow.Author.Needs.{needs}

@@ -1,11 +1,15 @@
 -- `mac::pair` meets its contract: a trap without effect, or the work. Assumes nothing.
 use Prim.Native.Nat.{_≤_}
 use native.Mathlib.Omega.{arith}
+use mathlib.Core.Path.{_≡_}
+use mir.Syntax.{w64}
+use mir.Val.{toZ, ofZ}
 use denote.Ref.{now}
 use Rattle.form.specs.Words.{kindIn}
 use Rattle.form.proofs.Fields.{mac-fields}
 use Rattle.products.proofs.Pairs.{pair-fields, pair-trapped, pair-carries}
-use Rattle.products.proofs.Ranges.{x-step, y-step, within, accumulator-kept, product-kept}
+use Rattle.fields.proofs.Accumulators.{within}
+use Rattle.products.proofs.Ranges.{x-step, y-step, accumulator-kept, product-kept}
 use borrow.Author.Needs.{needs}
 use Rattle.products.proofs.mac.pair.Statement.{statement}
 use Rattle.products.proofs.mac.pair.Tie as tie
@@ -54,8 +58,8 @@ kind-requires c κs =
     let entry = c .before .before .before .before .before .before .before .before .before .before .before .before .before .before .before .before .before .before .before .before in
     entry .pre .0
 
-mac-result-requires : tie.Need-mac-result-requires
-mac-result-requires c κs =
+accumulated-requires : tie.Need-accumulated-requires
+accumulated-requires c κs =
     let mac-product = c .before .before .before .before .before .before .before .before .before .before .before .before in
     let target = mac-product .before .before in
     let entry = target .before .before .before .before .before .before .before .before in
@@ -67,7 +71,8 @@ mac-result-requires c κs =
 
 returns-2 : tie.Need-returns-2
 returns-2 c =
-    let kind = c .before .before in
+    let at-result = c .before in
+    let kind = at-result .before .before in
     let arrive-pair = kind .before in
     let step-pointer2 = arrive-pair .before .before in
     let word4 = step-pointer2 .before .before in
@@ -87,9 +92,11 @@ returns-2 c =
     let v = accumulator-kept _ (within acc (t .result) (t .ensures .1) (entry .pre .1 .1 .1)) in
     let first = rw (word .word .ensures, word2 .word2 .ensures) at (step-pointer .step-pointer .ensures) in
     let second = rw (word3 .word3 .ensures, word4 .word4 .ensures) at (step-pointer2 .step-pointer2 .ensures) in
-    let exact = rw (v, t .ensures .0, product-kept _ (p .ensures .1), kind .kind .ensures) at (c .mac-result .ensures .1) in
-    pair-carries (a .settings) (a .mode) acc (now (a .w)) (now (a .memory)) (fetch-pair .fetch-pair .result) (entry .pre .0) (entry .pre .1 .0) (fetch-pair .fetch-pair .ensures)
-    (test .if1 .left) (c .mac-result .result) (p .result) (p .ensures .0) first second (arrive-pair .arrive-pair .ensures) (c .mac-result .ensures .0) exact
+    let exact = rw (v, t .ensures .0, product-kept _ (p .ensures .1), kind .kind .ensures) at (at-result .accumulated .ensures) in
+    let r : toZ w64 (ofZ w64 (at-result .accumulated .result)) ≡ at-result .accumulated .result = search needs in
+    rw (c .result .ensures, r)
+    (pair-carries (a .settings) (a .mode) acc (now (a .w)) (now (a .memory)) (fetch-pair .fetch-pair .result) (entry .pre .0) (entry .pre .1 .0) (fetch-pair .fetch-pair .ensures)
+    (test .if1 .left) (at-result .accumulated .result) (p .result) (p .ensures .0) first second (arrive-pair .arrive-pair .ensures) exact)
 
 pub pair-spec : {M : Type 1} → statement M
 pair-spec =
@@ -110,5 +117,6 @@ pair-spec =
     kind-requires
     (λ c. search needs)
     (λ c. search needs)
-    mac-result-requires
+    accumulated-requires
+    (λ c κs. search needs)
     returns-2)

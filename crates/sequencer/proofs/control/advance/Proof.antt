@@ -41,8 +41,8 @@ returns-3 c =
     let some = loops (now (a .lasts)) (a .f .pc) (a .f .depth) (s .outer) last-one small in (
       (λ p kept.
           record {
-            core = λ w acc over. c .fall .ensures .0 p (now (a .lasts)) kept .core w acc over
-                ∙ sym (falls p (a .f) (now (a .starts)) (now (a .passes)) (now (a .lasts)) kept some (c .before .before .before .before .before .if1 .left) last-one w acc over);
+            core = λ w acc oflags. c .fall .ensures .0 p (now (a .lasts)) kept .core w acc oflags
+                ∙ sym (falls p (a .f) (now (a .starts)) (now (a .passes)) (now (a .lasts)) kept some (c .before .before .before .before .before .if1 .left) last-one w acc oflags);
             lasts = c .fall .ensures .0 p (now (a .lasts)) kept .lasts;
           }),
       c .fall .ensures .1,

@@ -17,7 +17,7 @@ returns c =
     let few : kindIn (now (a .code)) (a .at) < 21 = rw (c .before .before .before .kind .ensures) at (c .before .before .if1 .taken) in (
       (λ p follows. rw (c .at .ensures) (follows .lasts)),
       (
-        (λ p acc over. begins-repeat (now (a .code)) (a .at) p (a .f) (c .at .result) (count .result) (now (a .w)) acc over (now (a .starts)) (now (a .passes)) (count .ensures) (entry .pre .1 .0) few (c .at .ensures)),
+        (λ p acc oflags. begins-repeat (now (a .code)) (a .at) p (a .f) (c .at .result) (count .result) (now (a .w)) acc oflags (now (a .starts)) (now (a .passes)) (count .ensures) (entry .pre .1 .0) few (c .at .ensures)),
         rw (c .at .ensures),
       ),
     )
@@ -40,8 +40,8 @@ returns-2 c =
       (λ p follows.
           done .kept p (do-last (now (a .code)) (a .at) p (a .f .pc) more most (follows .here) ∙ sym (c .before .before .before .before .word .ensures)) (follows .lasts)),
       (
-        (λ p acc over.
-            begins-loop (now (a .code)) (a .at) p (a .f) (c .enter .result) (count .result) (now (a .w)) acc over (now (a .starts)) (now (a .passes)) (count .ensures) more most _ _ (done .core (now (a .w)) acc over)),
+        (λ p acc oflags.
+            begins-loop (now (a .code)) (a .at) p (a .f) (c .enter .result) (count .result) (now (a .w)) acc oflags (now (a .starts)) (now (a .passes)) (count .ensures) more most _ _ (done .core (now (a .w)) acc oflags)),
         done .mode,
       ),
     )

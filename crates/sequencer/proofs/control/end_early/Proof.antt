@@ -16,19 +16,19 @@ near c = ⊎-elim (λ way. rw (way .0 .taken) (way .1)) (λ way. rw (way .0 .lef
 returns : tie.Need-returns
 returns c =
     let a = c .before .before .before .before .before .args in
-    λ p kept w acc over.
-    fewer p (a .f) (now (a .starts)) (now (a .passes)) (now (a .lasts)) kept (c .before .before .before .before .if1 .taken) (c .before .if2 .most) (near (c .before)) w acc over (c .if3 .taken)
+    λ p kept w acc oflags.
+    fewer p (a .f) (now (a .starts)) (now (a .passes)) (now (a .lasts)) kept (c .before .before .before .before .if1 .taken) (c .before .if2 .most) (near (c .before)) w acc oflags (c .if3 .taken)
 
 returns-2 : tie.Need-returns-2
 returns-2 c =
     let a = c .before .before .before .before .before .args in
-    λ p kept w acc over.
-    no-fewer p (a .f) (now (a .starts)) (now (a .passes)) (now (a .lasts)) kept (c .before .before .before .before .if1 .taken) (c .before .if2 .most) (near (c .before)) w acc over (c .if3 .left)
+    λ p kept w acc oflags.
+    no-fewer p (a .f) (now (a .starts)) (now (a .passes)) (now (a .lasts)) kept (c .before .before .before .before .if1 .taken) (c .before .if2 .most) (near (c .before)) w acc oflags (c .if3 .left)
 
 returns-3 : tie.Need-returns-3
 returns-3 c =
     let a = c .before .args in
-    λ p kept w acc over. no-loop p (a .f) (now (a .starts)) (now (a .passes)) w acc over (c .if1 .left)
+    λ p kept w acc oflags. no-loop p (a .f) (now (a .starts)) (now (a .passes)) w acc oflags (c .if1 .left)
 
 pub end-early-spec : {M : Type 1} → statement M
 end-early-spec =

@@ -13,7 +13,7 @@ returns c =
     let entry = c .before in
     let a = entry .args in
     record {
-      core = λ w acc over. rw (c .at .ensures);
+      core = λ w acc oflags. rw (c .at .ensures);
       kept = λ p named kept. rw (c .at .ensures) (lasts-begun p (now (a .starts)) (now (a .lasts)) (a .f .depth) (a .f .pc) (a .last) (entry .pre .1) named kept);
       mode = rw (c .at .ensures);
     }

@@ -7,7 +7,7 @@ use Rattle.sequencer.proofs.limits.limit_of.Tie as tie
 returns : tie.Need-returns
 returns c =
     let high = c .before .before .before .high-of in
-    rw (gave (high .ensures) (high .ok), ← c .before .left-trap .ensures, ← c .beyond-trap .ensures, ← c .before .before .saturates .ensures)
+    rw (gave (high .ensures) (high .ok), ← c .before .outside-trap .ensures, ← c .overflow-trap .ensures, ← c .before .before .saturates .ensures)
 
 pub limit-of-spec : {M : Type 1} → statement M
 limit-of-spec =

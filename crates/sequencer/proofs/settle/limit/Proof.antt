@@ -9,7 +9,7 @@ use Rattle.accumulator.specs.Limit.{limitBits, hasLeft}
 use Rattle.accumulator.specs.Mode.{modeOf}
 use Rattle.operations.specs.Decode.{targetOf}
 use Rattle.sequencer.specs.declared.limits.Limit.{Limit}
-use Rattle.sequencer.proofs.Settles.{limit-at, pairs-written, pairs-flagged, settles-inside, settles-left}
+use Rattle.sequencer.proofs.Settles.{limit-at, twos-written, twos-flagged, settles-inside, settles-left}
 use borrow.Author.Needs.{needs}
 use Rattle.sequencer.proofs.settle.limit.Statement.{statement}
 use Rattle.sequencer.proofs.settle.limit.Tie as tie
@@ -27,9 +27,9 @@ returns c =
           let known = by .ensures ∙ limit-at traps mode (a .limits) e (a .t) (entry .pre .0) in
           let test = left .ensures (limitBits (modeOf mode) (targetOf (a .t))) (high ∙ ap (λ (x : Limit). x .high) known) in
           rw r
-          (settles-inside traps mode (a .t) (entry .pre .0) (a .r) (now (a .acc)) (now (a .over)) (now (a .sat)) (entry .pre .1 .0) (by .result) known
+          (settles-inside traps mode (a .t) (entry .pre .0) (a .r) (now (a .acc)) (now (a .oflags)) (now (a .sflags)) (entry .pre .1 .0) (by .result) known
           (entry .pre .1 .1) (sym (rw r at test) ∙ not-true (left .result) (c .if1 .taken)))),
-      pairs-written (entry .pre .1 .0) (a .t) _ _,
+      twos-written (entry .pre .1 .0) (a .t) _ _,
     )
 
 returns-2 : tie.Need-returns-2
@@ -48,13 +48,13 @@ returns-2 c =
           let is-high = high ∙ ap (λ (x : Limit). x .high) known in
           let test = left .ensures (limitBits (modeOf mode) (targetOf (a .t))) is-high in
           rw v
-          (settles-left traps mode (a .t) (entry .pre .0) (a .r) (now (a .acc)) (now (a .over)) (now (a .sat)) (entry .pre .1 .0) (by .result) known
+          (settles-left traps mode (a .t) (entry .pre .0) (a .r) (now (a .acc)) (now (a .oflags)) (now (a .sflags)) (entry .pre .1 .0) (by .result) known
           (kept .result) (c .before .overflow .result) (c .first-trap .result)
           (sym (rw r at test) ∙ not-false (left .result) (c .before .before .before .if1 .left))
           (rw r at (kept .ensures (limitBits (modeOf mode) (targetOf (a .t))) is-high))
           (rw v at (c .before .overflow .ensures))
           (c .first-trap .ensures))),
-      pairs-flagged (pairs-written (entry .pre .1 .0) (a .t) _ _) (a .t) _,
+      twos-flagged (twos-written (entry .pre .1 .0) (a .t) _ _) (a .t) _,
     )
 
 pub limit-spec : {M : Type 1} → statement M

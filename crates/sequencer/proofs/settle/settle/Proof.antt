@@ -3,7 +3,7 @@ use mathlib.Core.Path.{sym, _∙_}
 use borrow.Author.Tests.{not-true, not-false}
 use denote.Ref.{now}
 use mir.Facts.{toZ-ofZ}
-use Rattle.sequencer.proofs.Settles.{pairs-written, settles-small}
+use Rattle.sequencer.proofs.Settles.{twos-written, settles-small}
 use borrow.Author.Needs.{needs}
 use Rattle.sequencer.proofs.settle.settle.Statement.{statement}
 use Rattle.sequencer.proofs.settle.settle.Tie as tie
@@ -15,9 +15,9 @@ returns c =
     let r = toZ-ofZ (entry .fits .r) in (
       (λ traps mode e.
           rw r
-          (settles-small traps mode (a .t) (entry .pre .0) (a .r) (now (a .acc)) (now (a .over)) (now (a .sat)) (entry .pre .1)
+          (settles-small traps mode (a .t) (entry .pre .0) (a .r) (now (a .acc)) (now (a .oflags)) (now (a .sflags)) (entry .pre .1)
           (sym (rw r at (c .before .overflow .ensures)) ∙ not-true (c .before .overflow .result) (c .if1 .taken)))),
-      pairs-written (entry .pre .1) (a .t) _ _,
+      twos-written (entry .pre .1) (a .t) _ _,
     )
 
 limit-requires : tie.Need-limit-requires

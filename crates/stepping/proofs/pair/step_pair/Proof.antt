@@ -1,20 +1,23 @@
 -- `pair::step_pair` meets its contract: a trap without effect, or the work, its write and the next repetition. Assumes nothing.
-use Prim.Native.Nat.{_-_, _≤_}
-use mathlib.Core.Bool.{false}
-use mathlib.Core.List.{[]}
-use mathlib.Core.Path.{refl}
+use Prim.Native.Nat.{_≤_}
+use mathlib.Core.Bool.{true, false}
+use mathlib.Core.Path.{_≡_, refl}
+use mir.Syntax.{w64}
+use mir.Val.{toZ, ofZ}
 use native.Mathlib.Omega.{arith}
 use denote.Ref.{now}
 use lib.IntN.{pos}
 use Rattle.operations.specs.Decode.{targetOf}
 use Rattle.form.specs.Words.{field, kindIn, codedAt}
 use Rattle.fields.specs.Carried.{Carries}
+use Rattle.fields.specs.declared.carry.Carry.{Carry}
 use Rattle.form.proofs.Fields.{mac-fields}
 use Rattle.products.proofs.Pairs.{pair-fields, pair-trapped, pair-carries}
-use Rattle.products.proofs.Ranges.{x-step, y-step, within, accumulator-kept, product-kept}
+use Rattle.fields.proofs.Accumulators.{within}
+use Rattle.products.proofs.Ranges.{x-step, y-step, accumulator-kept, product-kept}
 use Rattle.sequencer.specs.Lent.{lentCore}
 use Rattle.sequencer.proofs.Flows.{repeats}
-use Rattle.stepping.proofs.Works.{onward-kind, step-trapped, step-done, writes-low}
+use Rattle.stepping.proofs.Works.{onward-kind, step-trapped, step-done}
 use borrow.Author.Needs.{needs}
 use Rattle.stepping.proofs.pair.step_pair.Statement.{statement}
 use Rattle.stepping.proofs.pair.step_pair.Tie as tie
@@ -33,11 +36,11 @@ returns c =
       (λ p starts passes lasts follows. rw (c .uncounted .ensures)
           (record {
             step =
-                step-trapped (a .settings) p (codedAt (now (a .code)) (a .at)) (a .f) (now (a .acc)) (now (a .over)) (now (a .sat)) (now (a .w)) starts passes (now (a .memory)) (follows .here)
-                (targetOf (field (now (a .code)) (a .at) 1)) (now (a .w)) (now (a .memory)) (record { trap = fetch-pair .fetch-pair .result .trap; writes = false; r = pos 0 }) (carries (lentCore (now (a .w)) (now (a .acc)) (now (a .over)) starts passes (a .f))) (c .before .if1 .taken);
+                step-trapped (a .settings) p (codedAt (now (a .code)) (a .at)) (a .f) (now (a .acc)) (now (a .oflags)) (now (a .sflags)) (now (a .w)) starts passes (now (a .memory)) (follows .here)
+                (targetOf (field (now (a .code)) (a .at) 1)) (now (a .w)) (now (a .memory)) (record { trap = fetch-pair .fetch-pair .result .trap; writes = false; r = pos 0 }) (carries (lentCore (now (a .w)) (now (a .acc)) (now (a .oflags)) starts passes (a .f))) (c .before .if1 .taken);
             lasts = follows .lasts;
             mode = λ z. refl;
-            pairs = entry .pre .1 .1 .1 .1 .1 .0;
+            twos = entry .pre .1 .1 .1 .1 .1 .0;
           })),
       (rw (c .uncounted .ensures), rw (c .uncounted .ensures)),
     )
@@ -74,8 +77,8 @@ kind-requires c κs =
     let entry = c .before .before .before .before .before .before .before .before .before .before .before .before .before .before .before .before .before .before .before .before in
     entry .pre .0
 
-mac-result-requires : tie.Need-mac-result-requires
-mac-result-requires c κs =
+accumulated-requires : tie.Need-accumulated-requires
+accumulated-requires c κs =
     let mac-product = c .before .before .before .before .before .before .before .before .before .before .before .before in
     let target = mac-product .before .before in
     let entry = target .before .before .before .before .before .before .before .before in
@@ -86,8 +89,11 @@ mac-result-requires c κs =
     (rw (accumulator-kept _ v) v, rw (product-kept _ (p .ensures .1)) (p .ensures .1))
 
 -- what the pair comes to
-carried : (c : tie.After-mac-result) → let a = c .before .before .before .before .before .before .before .before .before .before .before .before .before .before .before .before .before .before .before .before .before .before .before .args in
-    Carries (a .settings) (a .f .mode) (now (a .code)) (a .at) (now (a .acc)) (now (a .w)) (now (a .memory)) (c .before .before .before .arrive-pair .last .1 .1 .1 .1 .0) (now (a .memory)) (c .mac-result .result)
+abbrev result : tie.After-accumulated → Carry
+result c = record { trap = 0; writes = true; r = c .accumulated .result }
+
+carried : (c : tie.After-accumulated) → let a = c .before .before .before .before .before .before .before .before .before .before .before .before .before .before .before .before .before .before .before .before .before .before .before .args in
+    Carries (a .settings) (a .f .mode) (now (a .code)) (a .at) (now (a .acc)) (now (a .w)) (now (a .memory)) (c .before .before .before .arrive-pair .last .1 .1 .1 .1 .0) (now (a .memory)) (result c)
 carried c =
     let kind = c .before .before in
     let arrive-pair = kind .before in
@@ -109,50 +115,47 @@ carried c =
     let v = accumulator-kept _ (within acc (t .result) (t .ensures .1) (entry .pre .1 .1 .1 .1 .0)) in
     let first = rw (word .word .ensures, word2 .word2 .ensures) at (step-pointer .step-pointer .ensures) in
     let second = rw (word3 .word3 .ensures, word4 .word4 .ensures) at (step-pointer2 .step-pointer2 .ensures) in
-    let exact = rw (v, t .ensures .0, product-kept _ (p .ensures .1), kind .kind .ensures) at (c .mac-result .ensures .1) in
+    let exact = rw (v, t .ensures .0, product-kept _ (p .ensures .1), kind .kind .ensures) at (c .accumulated .ensures) in
     pair-carries (a .settings) (a .f .mode) acc (now (a .w)) (now (a .memory)) (fetch-pair .fetch-pair .result) (entry .pre .0) (entry .pre .1 .0) (fetch-pair .fetch-pair .ensures)
-    (test .if1 .left) (c .mac-result .result) (p .result) (p .ensures .0) first second (arrive-pair .arrive-pair .ensures) (c .mac-result .ensures .0) exact
+    (test .if1 .left) (c .accumulated .result) (p .result) (p .ensures .0) first second (arrive-pair .arrive-pair .ensures) exact
 
-write-requires : tie.Need-write-requires
-write-requires c κs =
+settle-requires : tie.Need-settle-requires
+settle-requires c κs =
     let at-result = c .before .before .before in
-    let entry = at-result .before .before .before .before .before .before .before .before .before .before .before .before .before .before .before .before .before .before .before .before .before .before .before in
-    let a = entry .args in (
-      entry .pre .0,
-      (
-        writes-low (a .settings) (a .f .mode) (now (a .code)) (a .at) (now (a .acc)) (now (a .w)) (now (a .memory)) (at-result .before .before .before .arrive-pair .last .1 .1 .1 .1 .0) (now (a .memory)) (at-result .mac-result .result)
-            (lentCore (now (a .w)) (now (a .acc)) (now (a .over)) [] [] (a .f)) (omega (arith, small entry)) (carried at-result),
-        entry .pre .1 .1 .1 .1 .1 .0,
-      ),
-    )
+    let target = at-result .before .before .before .before .before .before .before .before .before .before .before .before .before .before .before in
+    let entry = target .before .before .before .before .before .before .before .before in
+    (target .target .ensures .1, entry .pre .1 .1 .1 .1 .1 .0)
 
 sub-at : tie.Need-sub-at
 sub-at c = omega (arith, c .before .before .before .before .before .before .before .before .before .before .before .before .before .before .before .before .before .before .before .before .before .before .before .before .before .before .before .before .pre .1 .1 .1 .1 .1 .1)
 
 returns-2 : tie.Need-returns-2
 returns-2 c =
-    let written = c .before .before .before .write in
+    let settled = c .before .before .before .settle in
     let at-result = c .before .before .before .before .before .before .before in
-    let entry = at-result .before .before .before .before .before .before .before .before .before .before .before .before .before .before .before .before .before .before .before .before .before .before .before in
+    let target = at-result .before .before .before .before .before .before .before .before .before .before .before .before .before .before .before in
+    let entry = target .before .before .before .before .before .before .before .before in
     let a = entry .args in
     let w = at-result .before .before .before .arrive-pair .last .1 .1 .1 .1 .0 in
-    let acc = written .last .1 .1 .1 .1 .0 in
-    let over = written .last .1 .1 .1 .1 .1 .0 in
-    let sat = written .last .1 .1 .1 .1 .1 .1 .0 in (
+    let acc = settled .last .1 .1 .1 .0 in
+    let oflags = settled .last .1 .1 .1 .1 .0 in
+    let sflags = settled .last .1 .1 .1 .1 .1 .0 in
+    let r : toZ w64 (ofZ w64 (at-result .accumulated .result)) ≡ at-result .accumulated .result = search needs in (
       (λ p starts passes lasts follows.
           let moves = repeats p (a .f) starts passes lasts (follows .lasts) (c .before .at .result) (entry .pre .1 .1 .1 .1 .1 .1) (c .before .at .ensures) in
+          let written = rw (r, target .target .ensures .0) at (settled .ensures .0 (a .settings .traps) (a .f .mode) (entry .pre .1 .1 .1 .0) w starts passes (a .f)) in
           rw (c .complete .ensures)
           (record {
             step =
-                step-done (a .settings) p (codedAt (now (a .code)) (a .at)) (a .f) (now (a .acc)) (now (a .over)) (now (a .sat)) (now (a .w)) starts passes (now (a .memory)) (follows .here)
-                (targetOf (field (now (a .code)) (a .at) 1)) w (now (a .memory)) (at-result .mac-result .result) (carried at-result (lentCore (now (a .w)) (now (a .acc)) (now (a .over)) starts passes (a .f)))
-                acc over sat starts passes (c .before .at .result) (written .result) (at-result .mac-result .ensures .0)
+                step-done (a .settings) p (codedAt (now (a .code)) (a .at)) (a .f) (now (a .acc)) (now (a .oflags)) (now (a .sflags)) (now (a .w)) starts passes (now (a .memory)) (follows .here)
+                (targetOf (field (now (a .code)) (a .at) 1)) w (now (a .memory)) (result at-result) (carried at-result (lentCore (now (a .w)) (now (a .acc)) (now (a .oflags)) starts passes (a .f)))
+                acc oflags sflags starts passes (c .before .at .result) (settled .result) refl
                 (onward-kind (now (a .code)) (a .at) (omega (arith, small entry)))
-                (written .ensures .0 (a .settings .traps) (a .f .mode) (entry .pre .1 .1 .1 .0) w starts passes (a .f))
-                (moves .core w acc over);
+                written
+                (moves .core w acc oflags);
             lasts = moves .lasts;
             mode = λ z. rw (c .before .at .ensures);
-            pairs = written .ensures .1;
+            twos = settled .ensures .1;
           })),
       (rw (c .complete .ensures, c .before .at .ensures), rw (c .complete .ensures)),
     )
@@ -176,8 +179,8 @@ step-pair-spec =
     kind-requires
     (λ c. search needs)
     (λ c. search needs)
-    mac-result-requires
-    write-requires
+    accumulated-requires
+    settle-requires
     sub-at
     (λ c κs. search needs)
     (λ c κs. search needs)

@@ -20,7 +20,7 @@ returns-2 : tie.Need-returns-2
 returns-2 c =
     let entry = c .before .before .before .before .before .before .before .before .before .before in
     let a = entry .args in
-    λ p follows. c .step-begin .ensures p (a .settings) (now (a .acc)) (now (a .over)) (now (a .sat)) (now (a .memory)) (entry .pre .1 .1 .1 .1 .0) follows
+    λ p follows. c .step-begin .ensures p (a .settings) (now (a .acc)) (now (a .oflags)) (now (a .sflags)) (now (a .memory)) (entry .pre .1 .1 .1 .1 .0) follows
 
 step-control-requires : tie.Need-step-control-requires
 step-control-requires c κs =
@@ -31,7 +31,7 @@ returns-3 : tie.Need-returns-3
 returns-3 c =
     let entry = c .before .before .before .before .before .before .before .before .before .before in
     let a = entry .args in
-    λ p follows. c .step-control .ensures p (a .settings) (now (a .w)) (now (a .acc)) (now (a .over)) (now (a .memory)) (entry .pre .1 .1 .1 .1 .0) follows
+    λ p follows. c .step-control .ensures p (a .settings) (now (a .w)) (now (a .acc)) (now (a .oflags)) (now (a .memory)) (entry .pre .1 .1 .1 .1 .0) follows
 
 pub step-spec : {M : Type 1} → statement M
 step-spec =

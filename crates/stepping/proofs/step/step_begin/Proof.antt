@@ -1,5 +1,5 @@
 -- `step::step_begin` meets its contract: trap 4, or what control does. Assumes nothing.
-use mathlib.Core.Path.{_≡_, refl, sym, _∙_}
+use mathlib.Core.Path.{_≡_, refl}
 use native.Mathlib.Omega.{arith}
 use Prim.Native.Nat.{ℕ, _<_, _≤_}
 use mathlib.Core.Bool.{false, _&&_}
@@ -25,14 +25,14 @@ returns c =
     let kind = c .before .before .before .kind in
     let parts = both (ltb 20 (kind .result)) (eqb (a .f .depth) 4) (c .before .if1 .taken) in
     let deep = rw (kind .ensures) at (ltb-true 20 (kind .result) (parts .0)) in
-    λ p settings acc over sat memory pairs follows. rw (c .uncounted .ensures)
+    λ p settings acc oflags sflags memory twos follows. rw (c .uncounted .ensures)
     (record {
       step =
-          do-blocked settings p (now (a .code)) (a .at) (a .f) acc over sat (now (a .w)) (now (a .starts)) (now (a .passes)) memory (follows .here)
+          do-blocked settings p (now (a .code)) (a .at) (a .f) acc oflags sflags (now (a .w)) (now (a .starts)) (now (a .passes)) memory (follows .here)
           deep (entry .pre .1 .1 .0) (eqb-true (a .f .depth) 4 (parts .1));
       lasts = follows .lasts;
       mode = λ z. refl;
-      pairs = pairs;
+      twos = twos;
     })
 
 begin-requires : tie.Need-begin-requires
@@ -54,14 +54,14 @@ returns-2 c =
     let a = entry .args in
     let begin = c .before .begin in
     let few = room (c .before .before .before .before .before .before .before .kind .ensures) (entry .pre .1 .1 .1 .few) (c .before .before .before .before .before .if1 .left) in
-    λ p settings acc over sat memory pairs follows. rw (c .complete .ensures)
+    λ p settings acc oflags sflags memory twos follows. rw (c .complete .ensures)
     (record {
       step =
-          begins-step settings p (now (a .code)) (a .at) (a .f) acc over sat (now (a .w)) (now (a .starts)) (now (a .passes)) memory (follows .here)
-          (entry .pre .1 .0) (entry .pre .1 .1 .0) few (begin .last .1 .1 .1 .1 .1 .0) (begin .last .1 .1 .1 .1 .1 .1 .0) (begin .result) (begin .ensures .1 .0 p acc over);
+          begins-step settings p (now (a .code)) (a .at) (a .f) acc oflags sflags (now (a .w)) (now (a .starts)) (now (a .passes)) memory (follows .here)
+          (entry .pre .1 .0) (entry .pre .1 .1 .0) few (begin .last .1 .1 .1 .1 .1 .0) (begin .last .1 .1 .1 .1 .1 .1 .0) (begin .result) (begin .ensures .1 .0 p acc oflags);
       lasts = begin .ensures .0 p follows;
       mode = λ z. begin .ensures .1 .1;
-      pairs = pairs;
+      twos = twos;
     })
 
 pub step-begin-spec : {M : Type 1} → statement M

@@ -1,9 +1,7 @@
 -- `step::step_control` meets its contract, kind by kind. Assumes nothing.
-use mathlib.Core.Bool.{false}
-use mathlib.Core.Path.{_≡_, refl, sym, _∙_}
-use native.Mathlib.Omega.{arith}
+use mathlib.Core.Path.{_≡_, sym, _∙_}
 use denote.Ref.{now}
-use lib.ListN.{length, set, length-set}
+use lib.ListN.{length-set}
 use Rattle.integers.proofs.Whole.{never}
 use Rattle.form.specs.Words.{kindIn}
 use Rattle.stepping.proofs.Controls.{mode-step, early-step, clear-step}
@@ -23,16 +21,16 @@ returns c =
     let next = c .before .advance in
     let flow = c .before .before .before .before .with-mode .ensures in
     let kind : kindIn (now (a .code)) (a .at) ≡ 24 = sym (c .before .before .before .before .before .before .before .kind .ensures) ∙ c .before .before .before .before .before .before .if1 .taken in
-    λ p settings w acc over memory pairs follows.
+    λ p settings w acc oflags memory twos follows.
     let moves = next .ensures .0 p (rw flow (follows .lasts)) in
     rw (c .complete .ensures)
     (record {
       step =
-          mode-step settings p (now (a .code)) (a .at) (a .f) acc over (now (a .sat)) w (now (a .starts)) (now (a .passes)) memory (follows .here) kind
-          (next .last .1 .1 .0) (next .last .1 .1 .1 .0) (next .result) (rw (flow, c .before .before .before .before .before .word .ensures) at (moves .core w acc over));
+          mode-step settings p (now (a .code)) (a .at) (a .f) acc oflags (now (a .sflags)) w (now (a .starts)) (now (a .passes)) memory (follows .here) kind
+          (next .last .1 .1 .0) (next .last .1 .1 .1 .0) (next .result) (rw (flow, c .before .before .before .before .before .word .ensures) at (moves .core w acc oflags));
       lasts = moves .lasts;
       mode = λ z. never (sym z);
-      pairs = pairs;
+      twos = twos;
     })
 
 returns-2 : tie.Need-returns-2
@@ -42,16 +40,16 @@ returns-2 c =
     let next = c .before .advance2 in
     let early = c .before .before .before .before .end-early in
     let kind : kindIn (now (a .code)) (a .at) ≡ 23 = sym (c .before .before .before .before .before .before .before .before .before .kind .ensures) ∙ c .before .before .before .before .before .before .before .if2 .taken in
-    λ p settings w acc over memory pairs follows.
+    λ p settings w acc oflags memory twos follows.
     let moves = next .ensures .0 p (follows .lasts) in
     rw (c .complete2 .ensures)
     (record {
       step =
-          early-step settings p (now (a .code)) (a .at) (a .f) acc over (now (a .sat)) w (now (a .starts)) (now (a .passes)) memory (follows .here) kind
-          (early .last .1 .1 .1 .0) (next .last .1 .1 .0) (next .last .1 .1 .1 .0) (next .result) (early .ensures p (follows .lasts) w acc over) (moves .core w acc over);
+          early-step settings p (now (a .code)) (a .at) (a .f) acc oflags (now (a .sflags)) w (now (a .starts)) (now (a .passes)) memory (follows .here) kind
+          (early .last .1 .1 .1 .0) (next .last .1 .1 .0) (next .last .1 .1 .1 .0) (next .result) (early .ensures p (follows .lasts) w acc oflags) (moves .core w acc oflags);
       lasts = moves .lasts;
       mode = λ z. next .ensures .1;
-      pairs = pairs;
+      twos = twos;
     })
 
 returns-3 : tie.Need-returns-3
@@ -60,16 +58,16 @@ returns-3 c =
     let a = entry .args in
     let next = c .before .advance3 in
     let which = c .before .before .before .before .before .before .kind .ensures in
-    λ p settings w acc over memory pairs follows.
+    λ p settings w acc oflags memory twos follows.
     let moves = next .ensures .0 p (follows .lasts) in
     rw (c .complete3 .ensures)
     (record {
       step =
-          clear-step settings p (now (a .code)) (a .at) (a .f) acc over (now (a .sat)) w (now (a .starts)) (now (a .passes)) memory (follows .here)
-          (entry .pre .1 .0) (λ e. c .before .before .before .before .if2 .left (which ∙ e)) (λ e. c .before .before .before .before .before .if1 .left (which ∙ e)) (pairs .saturations) (next .last .1 .1 .0) (next .last .1 .1 .1 .0) (next .result) (moves .core w acc over);
+          clear-step settings p (now (a .code)) (a .at) (a .f) acc oflags (now (a .sflags)) w (now (a .starts)) (now (a .passes)) memory (follows .here)
+          (entry .pre .1 .0) (λ e. c .before .before .before .before .if2 .left (which ∙ e)) (λ e. c .before .before .before .before .before .if1 .left (which ∙ e)) (twos .saturations) (next .last .1 .1 .0) (next .last .1 .1 .1 .0) (next .result) (moves .core w acc oflags);
       lasts = moves .lasts;
       mode = λ z. next .ensures .1;
-      pairs = record { values = pairs .values; overflows = pairs .overflows; saturations = simp length-set (pairs .saturations) };
+      twos = record { values = twos .values; overflows = twos .overflows; saturations = simp length-set (twos .saturations) };
     })
 
 pub step-control-spec : {M : Type 1} → statement M

@@ -22,12 +22,12 @@ returns c =
     λ p follows. rw (c .uncounted .ensures)
     (record {
       step =
-          step-trapped (a .settings) p (codedAt (now (a .code)) (a .at)) (a .f) (now (a .acc)) (now (a .over)) (now (a .sat)) (now (a .w)) (now (a .starts)) (now (a .passes)) (now (a .memory)) (follows .here)
+          step-trapped (a .settings) p (codedAt (now (a .code)) (a .at)) (a .f) (now (a .acc)) (now (a .oflags)) (now (a .sflags)) (now (a .w)) (now (a .starts)) (now (a .passes)) (now (a .memory)) (follows .here)
           (targetOf (field (now (a .code)) (a .at) 1)) (e .last .1 .1 .1 .1 .1 .0) (e .last .1 .1 .1 .1 .1 .1 .0) (e .result)
-          (e .ensures (lentCore (now (a .w)) (now (a .acc)) (now (a .over)) (now (a .starts)) (now (a .passes)) (a .f))) (c .before .if1 .taken);
+          (e .ensures (lentCore (now (a .w)) (now (a .acc)) (now (a .oflags)) (now (a .starts)) (now (a .passes)) (a .f))) (c .before .if1 .taken);
       lasts = follows .lasts;
       mode = λ z. refl;
-      pairs = entry .pre .1 .1 .1 .1 .1 .0;
+      twos = entry .pre .1 .1 .1 .1 .1 .0;
     })
 
 write-requires : tie.Need-write-requires
@@ -38,7 +38,7 @@ write-requires c κs =
       entry .pre .0,
       (
         writes-low (a .settings) (a .f .mode) (now (a .code)) (a .at) (now (a .acc)) (now (a .w)) (now (a .memory)) (e .last .1 .1 .1 .1 .1 .0) (e .last .1 .1 .1 .1 .1 .1 .0) (e .result)
-            (lentCore (now (a .w)) (now (a .acc)) (now (a .over)) (now (a .starts)) (now (a .passes)) (a .f)) (entry .pre .1 .0) (e .ensures),
+            (lentCore (now (a .w)) (now (a .acc)) (now (a .oflags)) (now (a .starts)) (now (a .passes)) (a .f)) (entry .pre .1 .0) (e .ensures),
         entry .pre .1 .1 .1 .1 .1 .0,
       ),
     )
@@ -53,26 +53,26 @@ returns-2 c =
     let e = c .before .before .before .before .before .before .before .before .before .before .before .work in
     let written = c .before .before .before .before .write in
     let next = c .before .advance in
-    let core = lentCore (now (a .w)) (now (a .acc)) (now (a .over)) (now (a .starts)) (now (a .passes)) (a .f) in
+    let core = lentCore (now (a .w)) (now (a .acc)) (now (a .oflags)) (now (a .starts)) (now (a .passes)) (a .f) in
     let w = e .last .1 .1 .1 .1 .1 .0 in
     let acc = written .last .1 .1 .1 .1 .0 in
-    let over = written .last .1 .1 .1 .1 .1 .0 in
-    let sat = written .last .1 .1 .1 .1 .1 .1 .0 in
+    let oflags = written .last .1 .1 .1 .1 .1 .0 in
+    let sflags = written .last .1 .1 .1 .1 .1 .1 .0 in
     λ p follows.
     let moves = next .ensures .0 p (follows .lasts) in
     rw (c .complete .ensures)
     (record {
       step =
-          step-done (a .settings) p (codedAt (now (a .code)) (a .at)) (a .f) (now (a .acc)) (now (a .over)) (now (a .sat)) (now (a .w)) (now (a .starts)) (now (a .passes)) (now (a .memory)) (follows .here)
+          step-done (a .settings) p (codedAt (now (a .code)) (a .at)) (a .f) (now (a .acc)) (now (a .oflags)) (now (a .sflags)) (now (a .w)) (now (a .starts)) (now (a .passes)) (now (a .memory)) (follows .here)
           (targetOf (field (now (a .code)) (a .at) 1)) w (e .last .1 .1 .1 .1 .1 .1 .0) (e .result) (e .ensures core)
-          acc over sat (next .last .1 .1 .0) (next .last .1 .1 .1 .0) (next .result) (written .result)
+          acc oflags sflags (next .last .1 .1 .0) (next .last .1 .1 .1 .0) (next .result) (written .result)
           (c .before .before .before .before .before .before .before .before .if1 .left)
           (onward-kind (now (a .code)) (a .at) (entry .pre .1 .0))
           (written .ensures .0 (a .settings .traps) (a .f .mode) (entry .pre .1 .1 .1 .0) w (now (a .starts)) (now (a .passes)) (a .f))
-          (moves .core w acc over);
+          (moves .core w acc oflags);
       lasts = moves .lasts;
       mode = λ z. next .ensures .1;
-      pairs = written .ensures .1;
+      twos = written .ensures .1;
     })
 
 pub step-work-spec : {M : Type 1} → statement M

@@ -1,5 +1,5 @@
 -- `step::write` meets its contract: a result is settled, and without one nothing is. Assumes nothing.
-use mathlib.Core.Path.{_≡_, refl}
+use mathlib.Core.Path.{_≡_}
 use mir.Syntax.{w64}
 use mir.Val.{toZ, ofZ}
 use Rattle.machine.specs.Write.{settleOf}
