@@ -12,9 +12,9 @@ use borrow.Author.Tests.{ltb-true, ltb-false, leb-true, eqb-true, lt-ltb, le-ltb
 use Rattle.integers.proofs.Whole.{by-test, both}
 use Rattle.operations.specs.declared.operation.Operation.{Operation}
 use Rattle.program.specs.Placement.{roleAt, lastOf}
-use Rattle.state.specs.Accept.{isAround, aroundIn, standIn, isSlot, areLoops}
+use Rattle.state.specs.Accept.{isAround, aroundIn, standIn, mostPasses, isSlot, areLoops}
 use Rattle.state.specs.declared.state.Loops.{Loops}
-use Rattle.machine.proofs.Nested.{slotStart, passesOf, Nested}
+use Rattle.machine.proofs.Nested.{slotStart, passesOf, Passes, Nested}
 
 -- operation d opens a loop around pc
 abbrev Around : List Operation → ℕ → ℕ → Type 0
@@ -99,10 +99,10 @@ each-slot l h i k =
     pick (suc (suc (suc (suc i)))) k s0 s1 s2 s3 = absurd (omega arith)
 
 -- a checked slot that is in use, and one that is not
-slot-used : (l : Loops) (i : ℕ) → i < l .depth → isSlot l i ≡ true → (1 ≤ passesOf l i) × (passesOf l i ≤ 32768)
+slot-used : (l : Loops) (i : ℕ) → i < l .depth → isSlot l i ≡ true → Passes (passesOf l i)
 slot-used l i k h =
-    let (low, high) = both (leb 1 (passesOf l i)) (leb (passesOf l i) 32768) (rw (lt-ltb i (l .depth) k) at h) in
-    (leb-true 1 (passesOf l i) low, leb-true (passesOf l i) 32768 high)
+    let (low, high) = both (leb 1 (passesOf l i)) (leb (passesOf l i) mostPasses) (rw (lt-ltb i (l .depth) k) at h) in
+    (leb-true 1 (passesOf l i) low, leb-true (passesOf l i) mostPasses high)
 
 slot-free : (l : Loops) (i : ℕ) → l .depth ≤ i → isSlot l i ≡ true → (slotStart l i ≡ 0) × (passesOf l i ≡ 0)
 slot-free l i k h =
@@ -199,7 +199,7 @@ module _ (p : List Operation) (pc : ℕ) (l : Loops) (h : Nested p pc l) where
       by-test (λ (t : Bool). t ≡ true) (ltb i (l .depth))
       (λ e.
       let (low, high) = h .counted i (ltb-true i (l .depth) e) in
-      rw (le-leb 1 (passesOf l i) low, le-leb (passesOf l i) 32768 high))
+      rw (le-leb 1 (passesOf l i) low, le-leb (passesOf l i) mostPasses high))
       (λ e.
       let (start, passes) = h .unused i (ltb-false i (l .depth) e) f in
       rw (eq-eqb (slotStart l i) 0 start, eq-eqb (passesOf l i) 0 passes))

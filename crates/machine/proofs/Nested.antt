@@ -11,6 +11,7 @@ use lib.Seq.{getD-set-same, getD-set-other}
 use Rattle.operations.specs.declared.operation.Operation.{Operation}
 use Rattle.program.specs.Placement.{roleAt, isRepeat, lastOf, isPlaced}
 use Rattle.program.specs.declared.placement.Role.the-variants.{Repeats, Loops as Looped}
+use Rattle.state.specs.Accept.{mostPasses}
 use Rattle.state.specs.declared.state.Loops.{Loops}
 use Rattle.machine.specs.Loops.{innerStart, pushed, withPasses, popped}
 use Rattle.program.proofs.Placed.{LoopPlaced, lasting, loop-placed}
@@ -29,7 +30,7 @@ lastIn p l i = lastOf (roleAt p (slotStart l i))
 
 -- so many passes may be left
 abbrev pub Passes : ℕ → Type 0
-Passes n = (1 ≤ n) × (n ≤ 32768)
+Passes n = (1 ≤ n) × (n ≤ mostPasses)
 
 -- the active loops are exactly the loops around pc, an outer one before an inner one, with passes left; a slot that is not in use is zero
 pub record Nested (p : List Operation) (pc : ℕ) (l : Loops) : Type 0 where

@@ -1,12 +1,11 @@
 -- What refusal 7 asks of a state holds all along a run of an accepted program: a step keeps it, and it is all that a step relies on. Assumes nothing.
-use Prim.Native.Nat.{ℕ, _+_, _-_, _%_, _^_, _≤_, _<_, min}
+use Prim.Native.Nat.{ℕ, _+_, _-_, _^_, _≤_, _<_, min}
 use mathlib.Core.Bool.{Bool, true, false, cond, _&&_}
 use mathlib.Core.List.{List}
 use mathlib.Core.Path.{_≡_, refl, sym, ap, _∙_}
-use native.Mathlib.Nat.{mod-lt}
 use native.Mathlib.Omega.{arith}
 use borrow.Author.Tests.{ltb-true, ltb-false, leb-true, eqb-true, eq-eqb, lt-ltb, le-leb}
-use lib.Dec.{eqb, ltb, leb, lit<}
+use lib.Dec.{eqb, ltb, leb}
 use lib.IntN.{ℤ}
 use lib.ListN.{length}
 use Rattle.integers.proofs.Whole.{both, by-test, never}
@@ -20,7 +19,7 @@ use Rattle.operations.specs.declared.operation.Operation.{Operation}
 use Rattle.program.specs.Placement.{roleAt, isRepeat, lastOf, isPlaced}
 use Rattle.program.specs.declared.placement.Role.the-variants.{Plain, Repeats, Loops as Looped}
 use Rattle.state.specs.State.{register, goTo, withMode, restartedState}
-use Rattle.state.specs.Accept.{followsRepeat, isRepeatLeft, stateRefusal}
+use Rattle.state.specs.Accept.{mostPasses, followsRepeat, isRepeatLeft, stateRefusal}
 use Rattle.state.proofs.Parts.{accepted-parts, parts-accepted, restart-accepted}
 use Rattle.state.specs.declared.settings.Settings.{Settings}
 use Rattle.state.specs.declared.state.Loops.{Loops}
@@ -189,7 +188,7 @@ module _ (p : List Operation) (placed : isPlaced p ≡ true) (c : Core) (l : c .
       (nested-next p placed (c .pc) (c .loops) at (h .nested) (ap lastOf e) (repeat-inside p placed (c .pc) (c .loops) at (h .nested) e))
       (left-some p (c .pc) n (ap isRepeat e) few)
 
-  entered-stands : (n : ℕ) → roleAt p (c .pc) ≡ Looped (lastOf (roleAt p (c .pc))) → n < 32768 → c .loops .depth < 4 → Stands p (entered c n)
+  entered-stands : (n : ℕ) → roleAt p (c .pc) ≡ Looped (lastOf (roleAt p (c .pc))) → n < mostPasses → c .loops .depth < 4 → Stands p (entered c n)
   unfolding entered
   entered-stands n e few free =
       moved (c .pc + 1) (pushed (c .loops) (c .pc) (n + 1)) 0 (omega arith)
@@ -202,10 +201,8 @@ module _ (p : List Operation) (placed : isPlaced p ≡ true) where
   controlled-stands Onward c l h s free = advanced-stands p placed c l h s
   controlled-stands (Repeating n) c l h s free = repeated-stands p placed c l h n (s .0) (s .1)
   controlled-stands (RepeatingRegister r) c l h s free = repeated-stands p placed c l h (register (c .w) r) s (h .words r)
-  controlled-stands (Looping n) c l h s free = entered-stands p placed c l h n (s .0) (s .1) (free refl)
-  controlled-stands (LoopingRegister r) c l h s free =
-      let small : register (c .w) r % 2 ^ 14 < 2 ^ 14 = mod-lt (register (c .w) r) (lit< tt) in
-      entered-stands p placed c l h (register (c .w) r % 2 ^ 14) s (omega arith) (free refl)
+  controlled-stands (Looping n) c l h s free = entered-stands p placed c l h n (s .0) (omega (arith, s .1)) (free refl)
+  controlled-stands (LoopingRegister r) c l h s free = entered-stands p placed c l h (register (c .w) r) s (h .words r) (free refl)
   controlled-stands EndingEarly c l h s free =
       let (kept, same) = ended-stands p placed c l h s in
       advanced-stands p placed (endedEarly p c) (rw same l) kept (rw same s)

@@ -994,10 +994,11 @@ does :
 unfolding after
 does = (refl, refl, refl)
 
--- 22 DO register: the low 14 bits
+-- 22 DO register: all 16 bits
 register-does :
-    map (λ (w : ℕ). getD (alone (DoRegister 3 2) (start but reg 3 w) .state .core .loops .passes) 0 0) (0 ∷ 5 ∷ 0x3fff ∷ 0x4000 ∷ 0x4005 ∷ 0x8005 ∷ 0xffff ∷ [])
-    ≡ 1 ∷ 6 ∷ 16384 ∷ 1 ∷ 6 ∷ 6 ∷ 16384 ∷ []
+    map (λ (w : ℕ). getD (alone (DoRegister 3 2) (start but reg 3 w) .state .core .loops .passes) 0 0)
+    (0 ∷ 1 ∷ 0x3fff ∷ 0x4000 ∷ 0x4001 ∷ 0x7fff ∷ 0x8000 ∷ 0xbfff ∷ 0xc000 ∷ 0xffff ∷ [])
+    ≡ 1 ∷ 2 ∷ 16384 ∷ 16385 ∷ 16386 ∷ 32768 ∷ 32769 ∷ 49152 ∷ 49153 ∷ 65536 ∷ []
 unfolding after
 register-does = refl
 
@@ -1016,7 +1017,7 @@ falls :
     (after nested plain (start but at 8 but one 1 5) memory ≡ goes (start but at 2 but one 1 4 but reg 0 7) memory)
     × (after nested plain (start but at 8 but one 1 2) memory ≡ goes (start but at 2 but one 1 1 but reg 0 7) memory)
     × (after nested plain (start but at 8 but one 1 1) memory ≡ goes (start but at 9 but reg 0 7) memory)
-    × (after nested plain (start but at 8 but one 1 32768) memory ≡ goes (start but at 2 but one 1 32767 but reg 0 7) memory)
+    × (after nested plain (start but at 8 but one 1 65536) memory ≡ goes (start but at 2 but one 1 65535 but reg 0 7) memory)
 unfolding after
 falls = (refl, refl, refl, refl)
 
@@ -1104,15 +1105,17 @@ near-last :
     × (after ending plain (start but at 4 but one 1 3) memory ≡ goes (start but at 5 but one 1 2) memory)
     × (after ending plain (start but at 4 but one 1 2) memory ≡ goes (start but at 5 but one 1 2) memory)
     × (after ending plain (start but at 4 but one 1 1) memory ≡ goes (start but at 5 but one 1 1) memory)
+    × (after ending plain (start but at 5 but one 1 65536) memory ≡ goes (start but at 2 but one 1 1) memory)
+    × (after ending plain (start but at 4 but one 1 65536) memory ≡ goes (start but at 5 but one 1 2) memory)
 unfolding after
-near-last = (refl, refl, refl, refl, refl, refl)
+near-last = (refl, refl, refl, refl, refl, refl, refl, refl)
 
 -- other places: 1; outside a loop nothing happens
 elsewhere :
     (after ending plain (start but at 3 but one 1 5) memory ≡ goes (start but at 4 but one 1 1) memory)
     × (after ending plain (start but at 3 but one 1 2) memory ≡ goes (start but at 4 but one 1 1) memory)
     × (after ending plain (start but at 3 but one 1 1) memory ≡ goes (start but at 4 but one 1 1) memory)
-    × (after ending plain (start but at 2 but one 1 32768) memory ≡ goes (start but at 3 but one 1 1) memory)
+    × (after ending plain (start but at 2 but one 1 65536) memory ≡ goes (start but at 3 but one 1 1) memory)
     × (after ending plain (start but at 6) memory ≡ goes (start but at 7) memory)
 unfolding after
 elsewhere = (refl, refl, refl, refl, refl)

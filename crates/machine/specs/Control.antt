@@ -1,5 +1,5 @@
 -- Repeat left, loops and pc after an operation, and what kinds 19 to 25 do to them, to the mode word and to the saturation flags.
-use Prim.Native.Nat.{ℕ, _+_, _-_, _%_, _^_, min}
+use Prim.Native.Nat.{ℕ, _+_, _-_, min}
 use mathlib.Core.Bool.{Bool, true, false, cond, _&&_, _||_}
 use mathlib.Core.List.{List}
 use lib.Dec.{eqb, ltb}
@@ -83,13 +83,13 @@ controlOf EndEarly = EndingEarly
 controlOf (SetMode word) = SettingMode word
 controlOf ClearSaturation = Clearing
 
--- 20 REPEAT register b1, 16 bits; 22 DO register b1, low 14 bits
+-- 20 REPEAT register b1, 22 DO register b1: all 16 bits
 unfoldable pub controlled : List Operation → Control → Core → Core
 controlled p Onward c = advanced p c
 controlled p (Repeating n) c = repeated c n
 controlled p (RepeatingRegister r) c = repeated c (register (c .w) r)
 controlled p (Looping n) c = entered c n
-controlled p (LoopingRegister r) c = entered c (register (c .w) r % 2 ^ 14)
+controlled p (LoopingRegister r) c = entered c (register (c .w) r)
 controlled p EndingEarly c = advanced p (endedEarly p c)
 controlled p (SettingMode word) c = advanced p (withMode c word)
 controlled p Clearing c = advanced p c

@@ -1,5 +1,6 @@
 pub mod Opened
 pub mod RunExamples
+pub mod PassExamples
 pub mod LedgerExamples
 pub mod SumsExamples
 pub mod OverflowExamples

@@ -1,16 +1,16 @@
 -- Kinds 19 to 22 by their words: what they do to the core, and the last operation that a DO names. Assumes nothing.
 use Prim.Native.Nat.{ℕ, _+_, _≤_, _<_}
-use mathlib.Core.Path.{_≡_, sym, ap, _∙_}
-use mathlib.Core.Bool.{Bool, false, _||_}
+use mathlib.Core.Path.{_≡_, refl, sym, ap, _∙_}
+use mathlib.Core.Bool.{Bool, true, false, _||_}
 use mathlib.Core.List.{List}
 use mathlib.Core.Logic.{⊎-elim}
 use native.Mathlib.Omega.{arith}
 use native.Mathlib.Nat.{eq-or-lt-of-le}
-use borrow.Author.Tests.{lt-leb, ltb-true, eqb-false}
+use borrow.Author.Tests.{lt-leb, ltb-true, eqb-true}
 use lib.Dec.{eqb}
 use lib.IntN.{ℤ}
 use lib.ListN.{List·getD-map}
-use Rattle.integers.proofs.Whole.{both, neither}
+use Rattle.integers.proofs.Whole.{both}
 use Rattle.operations.specs.Listed.{isRegister, isWord, isListed}
 use Rattle.operations.specs.declared.operation.Operation.{Operation}
 use Rattle.operations.specs.declared.operation.Operation.the-variants.{Repeat, RepeatRegister, Do, DoRegister, EndEarly}
@@ -91,16 +91,12 @@ module _ (code : List ℕ) (at : ℕ) where
 
   -- ---- the register that holds a count
 
-  pub register-range : Encoded code at → 18 < kindIn code at → kindIn code at ≤ 22 → (eqb (kindIn code at) 19 || eqb (kindIn code at) 21) ≡ false
-      → field code at 1 < 14
+  pub register-range : Encoded code at → (eqb (kindIn code at) 20 || eqb (kindIn code at) 22) ≡ true → field code at 1 < 14
   unfolding isListed
-  register-range encoded low high other =
-      let r = field code at 1 in
-      let not-19 = eqb-false (kindIn code at) 19 (neither (eqb (kindIn code at) 19) (eqb (kindIn code at) 21) other .0) in
-      let not-21 = eqb-false (kindIn code at) 21 (neither (eqb (kindIn code at) 19) (eqb (kindIn code at) 21) other .1) in
-      let at-20 : kindIn code at ≡ 20 → r < 14 = λ e. ltb-true r 14 (rw (repeat-register-in e) at (encoded .listed)) in
-      let at-22 : kindIn code at ≡ 22 → r < 14 = λ e. ltb-true r 14 (both (isRegister r) (isWord (field code at 12)) (rw (do-register-in e) at (encoded .listed)) .0) in
-      ⊎-elim
-      (λ e. absurd (not-19 (sym e)))
-      (λ l. ⊎-elim (λ e. at-20 (sym e)) (λ k. ⊎-elim (λ e. absurd (not-21 (sym e))) (λ j. at-22 (omega arith)) (eq-or-lt-of-le k)) (eq-or-lt-of-le l))
-      (eq-or-lt-of-le low)
+  register-range encoded by-register = go (eqb (kindIn code at) 20) refl by-register
+    where
+      go : (t : Bool) → eqb (kindIn code at) 20 ≡ t → (t || eqb (kindIn code at) 22) ≡ true → field code at 1 < 14
+      go true e either = ltb-true (field code at 1) 14 (rw (repeat-register-in (eqb-true (kindIn code at) 20 e)) at (encoded .listed))
+      go false e other =
+          ltb-true (field code at 1) 14
+          (both (isRegister (field code at 1)) (isWord (field code at 12)) (rw (do-register-in (eqb-true (kindIn code at) 22 other)) at (encoded .listed)) .0)

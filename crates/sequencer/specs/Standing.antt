@@ -1,5 +1,5 @@
 -- What the order of execution relies on, and what it leaves. The last operation of each active loop is kept beside the loop's slot.
-use Prim.Native.Nat.{ℕ, _-_, _%_, _^_, _≤_, _<_}
+use Prim.Native.Nat.{ℕ, _-_, _≤_, _<_}
 use mathlib.Core.Bool.{Bool, cond, _||_}
 use mathlib.Core.List.{List}
 use mathlib.Core.Path.{_≡_}
@@ -38,11 +38,10 @@ pub record Moves (p : List Operation) (to : Core → Core) (f : Flow) (starts pa
   pub core : (w : List ℕ) (acc : List ℤ) (oflags : List Bool) → lentCore w acc oflags starts' passes' r ≡ to (lentCore w acc oflags starts passes f)
   pub lasts : Lasts p starts' lasts' (r .depth)
 
--- the count of kinds 19 REPEAT and 21 DO, word 11, of 20 REPEAT by a register, 16 bits, and of 22 DO by a register, low 14 bits
+-- the count of kinds 20 REPEAT and 22 DO by a register, all of it, and of 19 REPEAT and 21 DO, word 11
 abbrev pub countIn : List ℕ → ℕ → List ℕ → ℕ
 countIn code at w =
-    cond (eqb (kindIn code at) 19 || eqb (kindIn code at) 21) (field code at 11)
-    (cond (eqb (kindIn code at) 22) (register w (field code at 1) % 2 ^ 14) (register w (field code at 1)))
+    cond (eqb (kindIn code at) 20 || eqb (kindIn code at) 22) (register w (field code at 1)) (field code at 11)
 
 -- DO at pc begins a loop of n + 1 passes up to operation `last`
 pub record Enters (f : Flow) (n last : ℕ) (starts passes lasts starts' passes' lasts' : List ℕ) (r : Flow) : Type 0 where

@@ -56,19 +56,16 @@ pub fn advance(f: Flow, lasts: &[usize; 5], starts: &mut [usize; 4], passes: &mu
     fall(f, starts, passes)
 }
 
-// The count of kinds 19 REPEAT and 21 DO, word 11, of 20 REPEAT by a register, all of it, and of 22 DO by a register, its low 14 bits.
+// The count of kinds 20 REPEAT and 22 DO by a register, all of it, and of 19 REPEAT and 21 DO, word 11.
 fn count_of(code: &[u16], at: usize, w: &[u16; 14]) -> u16
     requires { ⌜ Encoded (now code) at ⌝ }
-    requires { ⌜ 18 < kindIn (now code) at ⌝ }
-    requires { ⌜ kindIn (now code) at ≤ 22 ⌝ }
     ensures { λ n. ⌜ n ≡ countIn (now (code .entry)) at (now (w .entry)) ⌝ }
 {
     let which = kind(code, at);
-    if (which == 19) | (which == 21) {
-        return word(code, at, 11);
+    if (which == 20) | (which == 22) {
+        return register(w, word(code, at, 1));
     }
-    let x = register(w, word(code, at, 1));
-    if which == 22 { x & 0x3fff } else { x }
+    word(code, at, 11)
 }
 
 // DO: a loop of n + 1 passes begins in the next slot.

@@ -254,23 +254,29 @@ one-after-other :
 unfolding seven
 one-after-other = (refl, refl, refl)
 
--- DOs at 0 to 4 with lasts 10 to 6: four loops around 4 and 7, five around 5 and 6
+-- DOs of this kind at 0 to 4 with lasts 10 to 6: four loops around 4 and 7, five around 5 and 6
+abbrev five-by : (ℕ → Operation) → List Operation
+five-by begin = begin 10 ∷ begin 9 ∷ begin 8 ∷ begin 7 ∷ begin 6 ∷ o ∷ o ∷ o ∷ o ∷ o ∷ o ∷ []
+
 abbrev five : List Operation
-five = Do 0 10 ∷ Do 0 9 ∷ Do 0 8 ∷ Do 0 7 ∷ Do 0 6 ∷ o ∷ o ∷ o ∷ o ∷ o ∷ o ∷ []
+five = five-by (Do 0)
 
 -- its four slots with these passes, and how many are in use
 abbrev fours : ℕ → ℕ → ℕ → ℕ → ℕ → Loops
 fours a b c d depth = slots (0 ∷ 1 ∷ 2 ∷ 3 ∷ []) (a ∷ b ∷ c ∷ d ∷ []) depth
 
--- passes 1..32,768, in each slot in use
+-- refusals with 0, 1, 32,768, 32,769, 65,536 and 65,537 passes left in slot i
+abbrev passes-in : (ℕ → Operation) → ℕ → List ℕ
+passes-in begin i =
+    map (λ (n : ℕ). seven (five-by begin) (placed 4 (slots (0 ∷ 1 ∷ 2 ∷ 3 ∷ []) (set (replicate 4 1) i n) 4) 0)) (0 ∷ 1 ∷ 32768 ∷ 32769 ∷ 65536 ∷ 65537 ∷ [])
+
+-- passes 1..65,536, in each slot in use, whichever kind began the loop; a loop alone
 passes :
-    (map (λ (n : ℕ). seven nested (placed 2 (slots (1 ∷ 0 ∷ 0 ∷ 0 ∷ []) (n ∷ 0 ∷ 0 ∷ 0 ∷ []) 1) 0)) (0 ∷ 1 ∷ 32768 ∷ 32769 ∷ []) ≡ 7 ∷ 0 ∷ 0 ∷ 7 ∷ [])
-    × (map (λ (n : ℕ). seven five (placed 4 (fours n 1 1 1 4) 0)) (0 ∷ 1 ∷ 32768 ∷ 32769 ∷ []) ≡ 7 ∷ 0 ∷ 0 ∷ 7 ∷ [])
-    × (map (λ (n : ℕ). seven five (placed 4 (fours 1 n 1 1 4) 0)) (0 ∷ 1 ∷ 32768 ∷ 32769 ∷ []) ≡ 7 ∷ 0 ∷ 0 ∷ 7 ∷ [])
-    × (map (λ (n : ℕ). seven five (placed 4 (fours 1 1 n 1 4) 0)) (0 ∷ 1 ∷ 32768 ∷ 32769 ∷ []) ≡ 7 ∷ 0 ∷ 0 ∷ 7 ∷ [])
-    × (map (λ (n : ℕ). seven five (placed 4 (fours 1 1 1 n 4) 0)) (0 ∷ 1 ∷ 32768 ∷ 32769 ∷ []) ≡ 7 ∷ 0 ∷ 0 ∷ 7 ∷ [])
+    (map (passes-in (Do 0)) (0 ∷ 1 ∷ 2 ∷ 3 ∷ []) ≡ replicate 4 (7 ∷ 0 ∷ 0 ∷ 0 ∷ 0 ∷ 7 ∷ []))
+    × (map (passes-in (DoRegister 0)) (0 ∷ 1 ∷ 2 ∷ 3 ∷ []) ≡ replicate 4 (7 ∷ 0 ∷ 0 ∷ 0 ∷ 0 ∷ 7 ∷ []))
+    × (map (λ (n : ℕ). seven nested (placed 2 (slots (1 ∷ 0 ∷ 0 ∷ 0 ∷ []) (n ∷ 0 ∷ 0 ∷ 0 ∷ []) 1) 0)) (0 ∷ 1 ∷ 65536 ∷ 65537 ∷ []) ≡ 7 ∷ 0 ∷ 0 ∷ 7 ∷ [])
 unfolding seven
-passes = (refl, refl, refl, refl, refl)
+passes = (refl, refl, refl)
 
 -- at most 4: the four around 4 and 7; inside five loops no number of them; a count of 5 where there are four, and where there are none
 at-most-four :

@@ -27,11 +27,15 @@ abbrev pub standIn : List Operation → ℕ → List ℕ → ℕ → Bool
 standIn p pc starts zero = true
 standIn p pc starts (suc n) = standIn p pc starts n && (not (isAround p pc n) || eqb (getD starts (aroundIn p pc n) 0) n)
 
--- a slot in use has 1..32,768 passes left; one that is not is zero
+-- passes left up to this many are accepted
+abbrev pub mostPasses : ℕ
+mostPasses = 65536
+
+-- a slot in use has 1..65,536 passes left; one that is not is zero
 abbrev pub isSlot : Loops → ℕ → Bool
 isSlot l i =
     cond (ltb i (l .depth))
-    (leb 1 (getD (l .passes) i 0) && leb (getD (l .passes) i 0) 32768)
+    (leb 1 (getD (l .passes) i 0) && leb (getD (l .passes) i 0) mostPasses)
     (eqb (getD (l .starts) i 0) 0 && eqb (getD (l .passes) i 0) 0)
 
 -- active loops exactly the loops around pc (at most 4)

@@ -12,6 +12,9 @@ ghost use lib.ListN.{getD};
 ghost use Rattle.program.specs.File.{fileRefusal, operationCount, programOf};
 ghost use Rattle.state.specs.Accept.{isAround, aroundIn, standIn, isSlot, areLoops, isRepeatLeft, isState, stateRefusal};
 
+// Passes left up to this many are accepted.
+const MOST_PASSES: u32 = 65536;
+
 // Whether operation d opens a loop around pc.
 fn is_around(file: &[u8], pc: usize, d: usize) -> bool
     requires { ⌜ fileRefusal (now file) ≡ 0 ⌝ }
@@ -74,7 +77,7 @@ fn is_slot(loops: Loops, i: usize) -> bool
     let start = starts[i];
     let left = passes[i];
     if i < loops.depth {
-        (1 <= left) & (left <= 32768)
+        (1 <= left) & (left <= MOST_PASSES)
     } else {
         (start == 0) & (left == 0)
     }

@@ -69,8 +69,21 @@ pub fn run(
     }
 }
 
-/// Run accepted operations: done, else spent, else execute.
+/// Run accepted operations.
 pub fn run_operations(
+    operations: &[Operation],
+    settings: &Settings,
+    state: &State,
+    memory: &mut [u16],
+    budget: u32,
+) -> Outcome {
+    let step = |machine: &mut Machine| machine.step();
+    run_by(step, operations, settings, state, memory, budget)
+}
+
+/// Run accepted operations by this step: done, else spent, else execute.
+pub fn run_by(
+    step: impl Fn(&mut Machine) -> Step,
     operations: &[Operation],
     settings: &Settings,
     state: &State,
@@ -91,7 +104,7 @@ pub fn run_operations(
         if steps == budget {
             break Ending::Spent;
         }
-        match machine.step() {
+        match step(&mut machine) {
             Step::Whole => steps += 1,
             Step::Blocked(trap) => break Ending::Trap(trap),
             Step::Trapped(trap) => {

@@ -3,6 +3,10 @@
 use crate::ending::Trap;
 use crate::operation::Operation;
 
+/// The most passes of a loop, which a register of 16 bits can ask for. They do not fit
+/// 16 bits.
+pub const MOST_PASSES: u32 = 65_536;
+
 /// An active loop: DO's number and passes left, the current one counted.
 #[derive(Clone, Copy, Debug, PartialEq, Eq)]
 pub struct Loop {

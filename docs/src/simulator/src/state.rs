@@ -1,7 +1,7 @@
 //! State, reset, and refusal 7.
 
 use crate::accumulator::WIDE;
-use crate::flow::{Flow, Loop, NO_LOOP};
+use crate::flow::{Flow, Loop, MOST_PASSES, NO_LOOP};
 use crate::mode::Mode;
 use crate::operation::Operation;
 
@@ -61,8 +61,8 @@ pub fn loops_around(pc: u16, operations: &[Operation]) -> Vec<u16> {
         .collect()
 }
 
-/// The active loops are exactly those around pc, with passes 1..32,768; a slot
-/// that is not in use is zero.
+/// The active loops are exactly those around pc, each with passes 1..65,536, whatever
+/// its kind and literal; a slot that is not in use is zero.
 fn loops_are_accepted(flow: &Flow, operations: &[Operation]) -> bool {
     let around = loops_around(flow.pc, operations);
     let active = usize::from(flow.active);
@@ -71,7 +71,7 @@ fn loops_are_accepted(flow: &Flow, operations: &[Operation]) -> bool {
     }
     let (used, unused) = flow.loops.split_at(active);
     let fits = |(slot, number): (&Loop, &u16)| {
-        slot.do_number == *number && (1..=32_768).contains(&slot.passes)
+        slot.do_number == *number && (1..=MOST_PASSES).contains(&slot.passes)
     };
     used.iter().zip(&around).all(fits) && unused.iter().all(|slot| *slot == NO_LOOP)
 }

@@ -248,7 +248,8 @@ pub fn transfer(
     Ok(())
 }
 
-/// Kinds 19 to 22: REPEAT and DO, which move pc on themselves.
+/// Kinds 19 to 22: REPEAT and DO, which move pc on themselves. A register counts with
+/// all its 16 bits.
 pub fn begin(operation: Operation, w: &[u16; 14], flow: &mut Flow) -> Result<(), Trap> {
     match operation {
         Operation::RepeatLiteral(count) => flow.begin_repeat(count),
@@ -259,7 +260,7 @@ pub fn begin(operation: Operation, w: &[u16; 14], flow: &mut Flow) -> Result<(),
         }
         Operation::DoRegister { register, .. } => {
             flow.check_room()?;
-            flow.begin_loop(w[usize::from(register)] & 0x3FFF);
+            flow.begin_loop(w[usize::from(register)]);
         }
         _ => {}
     }

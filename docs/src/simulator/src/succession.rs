@@ -83,13 +83,17 @@ impl Pair {
     /// The second from the state and memory left, at its own first operation, with
     /// this budget.
     pub fn run_second(&self, state: &State, memory: &[u16], budget: u32) -> Ended {
-        let second = Case {
+        self.second_from(state, memory).run(budget)
+    }
+
+    /// The second's start from this state and memory.
+    pub fn second_from(&self, state: &State, memory: &[u16]) -> Case {
+        Case {
             file: self.second.clone(),
             state: state.restart(),
             memory: memory.to_vec(),
             ..self.first.clone()
-        };
-        second.run(budget)
+        }
     }
 
     /// The run of this joined file from the first's start.

@@ -71,12 +71,12 @@ fn nested_loops_spent_as_the_inner_begins_again() {
 // ---- loops and repeats
 
 #[test]
-fn a_register_gives_do_14_bits_and_repeat_16() {
-    // C001 hex: two passes of two ADDs.
+fn a_register_gives_do_and_repeat_16_bits() {
+    // C001 hex: 49,154 passes of two ADDs, 98,308 x 65,536, so OA: 8000 + 0800.
     let ops = [do_w(3, 2), add(0, 0, 4, 0), add(0, 0, 4, 0)];
     let bench = memory([0; 4]).w(3, 0xC001).w(4, 1);
     let w = [(3, 0xC001), (4, 1)];
-    let line = "done 5 262144 0 0000 3 0 0020";
+    let line = "done 98309 6442713088 0 8800 3 0 0020";
     gives(bench, &ops, line, NO_LOOPS, &w, 0);
     // 65,536 runs: 2^32, so OA: 8000 + 0800.
     let ops = [lit(3, 0xFFFF), repeat_w(3), add(0, 0, 4, 0)];

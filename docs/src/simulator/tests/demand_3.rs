@@ -4,14 +4,16 @@
 //! value.
 
 mod common;
-use common::{end_alike, engine_word};
+use common::*;
 
 use simulator::cases::Case;
 use simulator::congruence::ledger_of;
 use simulator::file::check_file;
 use simulator::generate::case::{accepted_run, candidate};
 use simulator::generate::pairs::{accepted_pair, joined_file};
+use simulator::generate::passes::random_passes;
 use simulator::generate::random::Random;
+use simulator::generate::runs::passes::{counting, products};
 use simulator::ledger::{LedgerEnding, LedgerOutcome, ListedStore};
 use simulator::operand::Place;
 use simulator::{Ending, Outcome, Trap};
@@ -157,4 +159,104 @@ fn demand_3_on_joined_files() {
     assert!(seen.left >= 500 && seen.not_left >= 2_000);
     assert!(seen.rounded_without_limiting >= 5_000 && seen.rerun >= 1_000);
     assert!(seen.done >= 300 && seen.spent >= 500);
+}
+
+// ---- wish 1
+
+/// Random runs with counts of 16 bits and passes left up to 65,536.
+#[test]
+fn demand_3_on_runs_with_many_passes() {
+    let mut random = Random::new(35);
+    let (mut seen, mut wide) = (Seen::default(), 0);
+    while seen.runs < 6_000 {
+        let case = random_passes(&mut random, false);
+        let slots = case.state.flow.loops;
+        if slots.iter().any(|slot| slot.passes > 65_536)
+            || matches!(case.run(0).0.ending, Ending::Refused(_))
+        {
+            continue;
+        }
+        wide += usize::from(slots.iter().any(|slot| slot.passes > 32_768));
+        check_run(&mut random, case, &mut seen);
+    }
+    println!("{wide} from more than 32,768 passes, {seen:#?}");
+    assert!(wide >= 1_000);
+    assert!(seen.left >= 1_000 && seen.not_left >= 3_000);
+    assert!(seen.rounded_without_limiting >= 20_000 && seen.rerun >= 3_000);
+    assert!(seen.done >= 500 && seen.spent >= 1_000 && seen.mid_loop >= 1_500);
+}
+
+/// The ledger makes as many passes as the engine: 1 + 2 x (W + 1) steps.
+#[test]
+fn the_ledger_counts_with_16_bits() {
+    for word in [0, 1, 0x3FFF, 0x4000, 0x4001, 0x8000, 0xC000, 0xFFFF] {
+        let case = counting(3, word).budget(u32::MAX).case;
+        let (outcome, memory) = case.run(case.budget);
+        let ledger = ledger_of(&case);
+        let passes = i128::from(word) + 1;
+        assert_eq!(i128::from(ledger.steps), 1 + 2 * passes);
+        assert_eq!(ledger.state.accumulators, [65_536 * passes, 2 * passes]);
+        end_alike(&outcome, &memory, &ledger);
+    }
+}
+
+/// The step before which the ledger stops, p being added to A and taken from B in each
+/// pass and the limits -limit..limit - 1, if it stops within so many passes.
+fn leaves(p: i128, limit: i128, passes: i128) -> Option<i128> {
+    let of_a = (limit - 1) / p + 1;
+    let of_b = limit / p + 1;
+    let steps = (1 + 2 * (of_a - 1)).min(2 + 2 * (of_b - 1));
+    (of_a <= passes).then_some(steps)
+}
+
+/// Sums over a whole belt: W4 squared, doubled, in each of up to 65,536 passes.
+#[test]
+fn demand_3_on_whole_belts() {
+    let mut left = 0;
+    for (mode, limit) in [(0x0020, 1 << 39), (0x00F0, 1 << 39), (0x00E0, 1 << 31)] {
+        for word in [0x3FFF, 0x4000, 0xFFFE, 0xFFFF] {
+            for factor in [5, 0x00B5, 0x00B6, 0x0100, 0x0800, 0x0801, 0x1000] {
+                let case = products(word, factor, mode).case;
+                let (p, passes) = (2 * i128::from(factor).pow(2), i128::from(word) + 1);
+                let (outcome, memory) = case.run(case.budget);
+                let ledger = ledger_of(&case);
+                match leaves(p, limit, passes) {
+                    Some(steps) => {
+                        assert_eq!(ledger.ending, LedgerEnding::Left);
+                        assert_eq!(i128::from(ledger.steps), steps);
+                        assert_ne!(outcome.state.saturated, [false; 2]);
+                        left += 1;
+                    }
+                    None => {
+                        assert_eq!(outcome.state.saturated, [false; 2]);
+                        end_alike(&outcome, &memory, &ledger);
+                        let sums = [passes * p, -passes * p];
+                        assert_eq!(ledger.state.accumulators, sums);
+                    }
+                }
+            }
+        }
+    }
+    assert!(left >= 15, "{left}");
+}
+
+/// A rounded store in each of 65,536 passes, 50 more in A each time.
+#[test]
+fn every_store_of_a_whole_belt() {
+    let mac = mac(0, 0x54, 0, 0, 0, 0);
+    let ops = [do_w(3, 2), mac, sac_r(0, 0, 6, 0)];
+    let bench = Bench::new().w(3, 0xFFFF).w(4, 5).w(5, 5);
+    let case = bench.case(&ops);
+    let ledger = ledger_of(&case);
+    assert_eq!((ledger.steps, ledger.stores.len()), (131_073, 65_536));
+    for (pass, store) in (1..).zip(&ledger.stores) {
+        let value = 50 * pass;
+        assert_eq!((i128::from(store.step), store.value), (1 + 2 * pass, value));
+        assert!((65_536 * store.word - value).abs() <= 32_768);
+        assert!(store.rounded && !store.limiting_needed);
+    }
+    for pass in [1, 655, 656, 16_385, 32_769, 49_153, 65_536] {
+        let store = &ledger.stores[pass - 1];
+        assert_eq!(engine_word(&case, store), store.word);
+    }
 }

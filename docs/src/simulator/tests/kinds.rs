@@ -302,13 +302,16 @@ fn kind_21_nested() {
 }
 
 #[test]
-fn kind_22_uses_the_low_14_bits() {
+fn kind_22_uses_all_16_bits() {
     let ops = [do_w(6, 2), IDLE, add_both(0)];
-    let outcome = Bench::new().w(6, 0xC002).b(1).run(&ops);
-    assert_eq!(outcome.steps, 1 + 6);
-    assert_eq!(outcome.state.accumulators[0], 3);
-    let most = Bench::new().w(6, 0xFFFF).run(&ops);
-    assert_eq!(most.steps, 1 + 2 * 16_384);
+    for (word, passes) in [(2, 3), (0x4000, 16_385), (0xC002, 49_155), (0xFFFF, 65_536)] {
+        let outcome = Bench::new().w(6, word).b(1).run(&ops);
+        assert_eq!(
+            (outcome.ending, outcome.steps),
+            (Ending::Done, 1 + 2 * passes)
+        );
+        assert_eq!(outcome.state.accumulators[0], i64::from(passes));
+    }
 }
 
 #[test]

@@ -38,15 +38,26 @@ fn r7_no_state_is_accepted_inside_five_loops() {
     four(9).accepted(&ops);
 }
 
+/// 1..65,536, by which wish 1 replaces item 7's 1..32,768.
 #[test]
-fn r7_passes_do_not_depend_on_the_count() {
+fn r7_passes_do_not_depend_on_the_kind_or_its_count() {
     let ops = loop_program();
-    let mut bench = Bench::new().pc(2).within(1, 32_768);
-    assert_eq!(bench.run(&ops).steps, 2 * 32_768 + 1);
-    Bench::new().pc(2).within(1, 32_769).refused(&ops, 7);
-    Bench::new().pc(2).within(1, 0).refused(&ops, 7);
+    for passes in [1, 32_768, 32_769, 65_536] {
+        let mut bench = Bench::new().pc(2).within(1, passes);
+        assert_eq!(bench.run(&ops).steps, 2 * passes + 1);
+    }
     let by_register = [do_w(0, 2), IDLE, IDLE];
-    Bench::new().pc(1).within(0, 32_768).accepted(&by_register);
+    for passes in [1, 32_768, 32_769, 65_536] {
+        let mut bench = Bench::new().pc(1).within(0, passes);
+        assert_eq!(bench.run(&by_register).steps, 2 * passes);
+    }
+    for passes in [0, 65_537, 98_304, 131_072, u32::MAX] {
+        Bench::new().pc(2).within(1, passes).refused(&ops, 7);
+        Bench::new()
+            .pc(1)
+            .within(0, passes)
+            .refused(&by_register, 7);
+    }
 }
 
 #[test]

@@ -607,12 +607,13 @@ fn r21_sr_bit_4_is_set_in_the_last_run_and_with_count_0() {
     assert_eq!((last_run.flow.repeat, status_word(&last_run)), (1, 0x0010));
 }
 
+/// All 16 bits, by which wish 1 replaces item 22's sentence on kind 22.
 #[test]
-fn r22_kind_22_ignores_bits_14_and_15_and_kind_20_none() {
+fn r22_kind_22_uses_all_16_bits_as_kind_20_does() {
     let looped = [do_w(0, 2), IDLE, IDLE];
     // W0 becomes 0 in the loop; the count was taken before.
-    assert_eq!(Bench::new().w(0, 0xC000).run(&looped).steps, 3);
-    assert_eq!(Bench::new().w(0, 0x4001).run(&looped).steps, 5);
+    assert_eq!(Bench::new().w(0, 0xC000).run(&looped).steps, 1 + 2 * 0xC001);
+    assert_eq!(Bench::new().w(0, 0x4001).run(&looped).steps, 1 + 2 * 0x4002);
     let repeated = [repeat_w(0), IDLE];
     assert_eq!(Bench::new().w(0, 0xC000).run(&repeated).steps, 1 + 0xC001);
 }

@@ -41,6 +41,7 @@ fn the_parts_have_these_lengths() {
         ("settings", 89),
         ("files", 32),
         ("random", 200),
+        ("passes", 82),
     ];
     assert_eq!(lengths, said);
     let stream = stream_of(&steps());

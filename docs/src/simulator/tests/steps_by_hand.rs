@@ -372,12 +372,19 @@ fn do_inside_do() {
 }
 
 #[test]
-fn kind_22_has_14_bits_and_kind_20_has_16() {
-    // C002: 2, three passes.
+fn kinds_22_and_20_have_16_bits() {
+    // C002: 49,154, one pass more.
     let bench = memory([0; 4]).w(3, 0xC002);
     let ops = [do_w(3, 2), IDLE, IDLE];
     let line = "step 1 0 0 0200 1 0 0020";
-    gives(bench, &ops, line, "1 0:3 0:0 0:0 0:0", &[(3, 0xC002)], 0);
+    gives(
+        bench,
+        &ops,
+        line,
+        "1 0:49155 0:0 0:0 0:0",
+        &[(3, 0xC002)],
+        0,
+    );
     // FFFF: 65,536 runs.
     let bench = memory([0; 4]).w(3, 0xFFFF);
     let line = "step 1 0 0 0010 1 65536 0020";

@@ -85,7 +85,7 @@ impl Machine {
         };
         let count = match operation.kind {
             21 => operation.number,
-            _ => self.w[usize::from(operation.register)] & 0x3FFF,
+            _ => self.w[usize::from(operation.register)],
         };
         *slot = Loop {
             do_number: self.flow.pc as u16,

@@ -3,6 +3,7 @@
 use super::layout::Layout;
 use super::program::{program, Style};
 use super::random::Random;
+use super::short_loops::short_run;
 use super::start;
 use crate::cases::{Case, What};
 use crate::encode::encode_all;
@@ -97,8 +98,9 @@ pub fn accepted_run(random: &mut Random, clears: bool) -> Case {
     case
 }
 
+/// The length that a run is chosen by.
 fn steps_of(case: &Case) -> u32 {
-    let (outcome, _) = case.run(case.budget);
+    let (outcome, _) = short_run(case, case.budget);
     outcome.steps
 }
 

@@ -306,6 +306,7 @@ fn damage_pc(random: &mut Random, case: &mut Case) {
     ]);
 }
 
+/// A slot with another number, with passes far inside or outside; `passes` has 65,537.
 fn damage_slot(random: &mut Random, case: &mut Case) {
     let flow = &mut case.state.flow;
     let in_use = usize::from(flow.active).min(4);

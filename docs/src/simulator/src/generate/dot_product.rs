@@ -327,7 +327,7 @@ impl Maker<'_> {
         let count = passes as u16 - 1;
         let by_register = self.random.percent(30);
         if by_register {
-            self.push(Operation::Literal(3, count | 0x4000));
+            self.push(Operation::Literal(3, count));
         }
         let place = self.operations.len();
         self.push(Operation::EndEarly);

@@ -17,6 +17,7 @@ pub mod misses;
 pub mod onward;
 pub mod ops;
 pub mod pairs;
+pub mod passes;
 pub mod places;
 pub mod program;
 pub mod random;
@@ -24,6 +25,7 @@ pub mod random_form;
 pub mod requests;
 pub mod runs;
 pub mod services;
+pub mod short_loops;
 pub mod simple;
 pub mod special;
 pub mod speed;
@@ -79,7 +81,10 @@ pub type Mix = fn(&mut Random) -> Form;
 
 /// The mix of short cases: runs, loads and writes.
 pub fn short_mix(random: &mut Random) -> Form {
-    Form::Short(random_case(random))
+    Form::Short(match random.below(24) {
+        0 => passes::random_passes(random, true),
+        _ => random_case(random),
+    })
 }
 
 /// The mix of joins, runs of joined files, short and long, runs over decoded operations,

@@ -6,6 +6,7 @@ use super::damage::{damage_copy, damage_run};
 use super::layout::Layout;
 use super::program::{program, Style};
 use super::random::Random;
+use super::short_loops::short_run;
 use super::special;
 use crate::cases::{Case, What};
 use crate::ending::{Ending, Trap};
@@ -17,7 +18,7 @@ use crate::mode::Mode;
 use crate::operation::{Operation, Target};
 use crate::settings::{BitReversed, Circular, Settings};
 use crate::state::State;
-use crate::succession::{raised, Pair};
+use crate::succession::{raised, Ended, Pair};
 
 /// A budget that is enough for most programs.
 const ENOUGH: u32 = 3_000;
@@ -112,7 +113,7 @@ fn second(random: &mut Random, first: &Case) -> Vec<u8> {
 /// None; about what the first needs; about what both need; anything up to that;
 /// enough; and where both end by themselves the most there can be.
 fn budget(random: &mut Random, pair: &Pair) -> u32 {
-    let [first, both] = needed(pair, ENOUGH);
+    let [first, both] = needed_by(short_run, pair, ENOUGH);
     let ends = both < ENOUGH;
     match random.below(16) {
         0 => 0,
@@ -131,12 +132,17 @@ fn budget(random: &mut Random, pair: &Pair) -> u32 {
 /// The steps of the first alone, and of both where the first is done, with so much
 /// for each.
 pub fn needed(pair: &Pair, most: u32) -> [u32; 2] {
-    let (outcome, memory) = pair.first.run(most);
+    needed_by(Case::run, pair, most)
+}
+
+/// The same by another way to run.
+fn needed_by(run: fn(&Case, u32) -> Ended, pair: &Pair, most: u32) -> [u32; 2] {
+    let (outcome, memory) = run(&pair.first, most);
     let first = outcome.steps;
     if outcome.ending != Ending::Done {
         return [first; 2];
     }
-    let (outcome, _) = pair.run_second(&outcome.state, &memory, most);
+    let (outcome, _) = run(&pair.second_from(&outcome.state, &memory), most);
     [first, first + outcome.steps]
 }
 

@@ -147,7 +147,8 @@ impl Maker<'_> {
         }
     }
 
-    /// A loop of exactly `size` operations, DO included: 3 or more.
+    /// A loop of exactly `size` operations, DO included: 3 or more. Of a register's count
+    /// bits 14 and 15 are drawn apart: so many passes are rather ended by the budget.
     fn do_loop(&mut self, size: usize, depth: usize) {
         let mut size = size;
         let count = self.loop_count();

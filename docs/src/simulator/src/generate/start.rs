@@ -102,6 +102,7 @@ pub fn flow_at(random: &mut Random, operations: &[Operation], pc: u16) -> Flow {
     flow
 }
 
+/// Passes left, rather few and up to the most of kind 21; `passes` goes on to 65,536.
 fn passes(random: &mut Random) -> u32 {
     match random.below(12) {
         0 => 32_768,

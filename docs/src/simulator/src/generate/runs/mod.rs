@@ -19,6 +19,7 @@ pub mod kinds;
 pub mod long;
 pub mod nests;
 pub mod next_addresses;
+pub mod passes;
 pub mod refused;
 pub mod rounds;
 pub mod sizes;
@@ -30,18 +31,21 @@ pub mod unknown;
 use super::bench::Bench;
 use super::boards::random_combine;
 use super::decoded::random_decoded;
+use super::passes::random_passes;
 use super::random::Random;
 use super::random_case;
 use super::random_form::random_form;
 use crate::cases::{self, Case};
 use crate::file::BLOCK;
 use crate::form::{bytes_of, Form};
+use decoded_kinds::by_turns;
 
 const SEED: u64 = 20;
 const RANDOM_CASES: usize = 2_000;
 const RANDOM_FORMS: usize = 200;
 const RANDOM_BOARDS: usize = 200;
 const RANDOM_DECODED: usize = 200;
+const RANDOM_PASSES: usize = 40;
 /// The longest file and the most words of the stored random cases.
 const SMALL_FILE: usize = 3 * BLOCK;
 const SMALL_MEMORY: usize = 400;
@@ -89,10 +93,13 @@ pub fn parts() -> Vec<(&'static str, Vec<Form>)> {
     parts.push(("random_boards", random_boards()));
     parts.extend(REVERSED.into_iter().map(made));
     parts.extend(decoded_parts());
+    parts.push(("passes", passes::cases()));
+    parts.push(("decoded_passes", by_turns(passes::decoded())));
+    parts.push(("random_passes", short(random_passes_cases())));
     parts
 }
 
-/// The last parts, about runs over decoded operations.
+/// The parts about runs over decoded operations.
 fn decoded_parts() -> [(&'static str, Vec<Form>); 6] {
     [
         ("slices", slices::cases()),
@@ -172,4 +179,11 @@ fn random_decoded_cases() -> Vec<Form> {
     let cases = std::iter::repeat_with(|| random_decoded(&mut random));
     let small = cases.filter(|case| is_small(&case.start));
     small.take(RANDOM_DECODED).map(Form::Long).collect()
+}
+
+/// Random runs about passes and counts with small files and memory.
+fn random_passes_cases() -> Vec<Case> {
+    let mut random = Random::new(SEED);
+    let cases = std::iter::repeat_with(|| random_passes(&mut random, true));
+    cases.filter(is_small).take(RANDOM_PASSES).collect()
 }

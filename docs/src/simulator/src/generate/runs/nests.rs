@@ -63,7 +63,8 @@ fn counts() -> Vec<Bench> {
         .to_vec()
 }
 
-/// Kind 22 by every register: its low 14 bits; the register changes in the loop.
+/// Kind 22 by every register, with bits 14 and 15 clear and set; the register changes in
+/// the loop.
 fn by_registers() -> Vec<Bench> {
     let words = [0, 1, 3, 0x4000, 0x8002, 0xC001, 0xC005, 9];
     let mut all = Vec::new();

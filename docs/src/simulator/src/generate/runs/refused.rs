@@ -1,5 +1,6 @@
 //! Refusals 1 to 7 of runs, and what is just beside them.
 
+use super::build::steps_of;
 use crate::encode::encode_all;
 use crate::file::blocks_of;
 use crate::generate::bench::Bench;
@@ -21,12 +22,16 @@ pub fn cases() -> Vec<Bench> {
     all.into_iter().zip(budgets).map(with_budget).collect()
 }
 
-/// A start in a loop may be long, so its budget is not the largest.
+/// The most steps of a run with the largest budget.
+const LONG: u32 = 100_000;
+
+/// A start in a loop and loops by register in each other may be long, so that their
+/// budget is not the largest.
 fn with_budget((bench, budget): (Bench, u32)) -> Bench {
-    match bench.case.state.flow.active {
-        0 => bench.budget(budget),
-        _ => bench.budget(budget.min(300)),
-    }
+    let is_inside = bench.case.state.flow.active > 0;
+    let is_long = || steps_of(&bench.clone().budget(LONG)) == LONG;
+    let most = if is_inside || is_long() { 300 } else { budget };
+    bench.budget(budget.min(most))
 }
 
 /// Refusals 1 to 4 of a file; the settings and the state are wrong too in every

@@ -7,6 +7,7 @@ use crate::engine::accept;
 use crate::flow::Flow;
 use crate::generate::damage::damage_state;
 use crate::generate::random::Random;
+use crate::generate::short_loops::short_run;
 
 /// Whether a bag can go on from this start.
 pub fn fits(start: &Case) -> bool {
@@ -33,7 +34,7 @@ pub fn flow(random: &mut Random, start: &Case) -> Flow {
 fn left_elsewhere(random: &mut Random) -> Flow {
     let other = start(random, true);
     let budget = random.below(60) as u32;
-    other.run(budget).0.state.flow
+    short_run(&other, budget).0.state.flow
 }
 
 fn with_a_part_off(random: &mut Random, start: &Case) -> Flow {

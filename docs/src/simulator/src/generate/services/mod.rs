@@ -6,6 +6,7 @@ pub mod clears;
 pub mod endings;
 pub mod foreign;
 pub mod modes;
+pub mod passes;
 pub mod random;
 pub mod refused;
 pub mod room;
@@ -26,7 +27,7 @@ const SMALL_MEMORY: usize = 200;
 /// A part of the stored stream, and how its services are made.
 type Part = (&'static str, fn() -> Vec<Serving>);
 
-const PARTS: [Part; 9] = [
+const PARTS: [Part; 10] = [
     ("sequence", sequence::services),
     ("windows", windows::services),
     ("room", room::services),
@@ -36,6 +37,7 @@ const PARTS: [Part; 9] = [
     ("modes", modes::services),
     ("clears", clears::services),
     ("random", random_services),
+    ("passes", passes::services),
 ];
 
 /// The parts of the stored stream with their names, in order.

@@ -6,12 +6,12 @@ use super::{carried, foreign};
 use crate::bags::Serving;
 use crate::cases::Case;
 use crate::ending::Ending;
-use crate::engine::run;
 use crate::file::BLOCK;
 use crate::generate::case::{accepted_run, candidate};
 use crate::generate::damage::damage_run;
 use crate::generate::layout::styled_words;
 use crate::generate::random::Random;
+use crate::generate::short_loops::short_run;
 use crate::generate::special;
 use crate::service::{Bag, Change, Service};
 use crate::state::State;
@@ -57,7 +57,7 @@ fn whole(start: &Case) -> u32 {
         state,
         ..start.clone()
     };
-    case.run(ENOUGH).0.steps
+    short_run(&case, ENOUGH).0.steps
 }
 
 /// None, a few, somewhere in the program, just enough or ample.
@@ -126,16 +126,15 @@ fn bags(random: &mut Random, start: &Case, changes: Vec<Change>) -> Vec<Bag> {
             restart: misplaced || starts_again(random, before),
             budget: budget(random, whole),
         };
-        let begun = bag.begin(&state, &mut memory);
-        let outcome = run(
-            &start.file,
-            &start.settings,
-            &begun,
-            &mut memory,
-            bag.budget,
-        );
+        let begun = Case {
+            state: bag.begin(&state, &mut memory),
+            memory,
+            ..start.clone()
+        };
+        let outcome;
+        (outcome, memory) = short_run(&begun, bag.budget);
         bags.push(bag);
-        let raises = outcome.state.saturated != begun.saturated;
+        let raises = outcome.state.saturated != begun.state.saturated;
         if raises && bags.len() >= 3 && random.percent(50) {
             break;
         }

@@ -8,6 +8,7 @@ pub mod flow;
 pub mod kinds;
 pub mod limits;
 pub mod old;
+pub mod passes;
 pub mod raised;
 pub mod random;
 pub mod reversed;
@@ -25,8 +26,7 @@ const RANDOM_STEPS: usize = 200;
 /// A part of the stored stream, and how its cases are made.
 type Part = (&'static str, fn() -> Vec<Bench>);
 
-/// The parts of the stored stream in their order, but for the random ones, which
-/// come last.
+/// The parts of the stored stream in their order, up to the random ones.
 const PARTS: [Part; 13] = [
     ("kinds", kinds::cases),
     ("old", old::cases),
@@ -53,6 +53,7 @@ pub fn parts() -> Vec<(&'static str, Vec<Case>)> {
     let mut random = Random::new(SEED);
     let steps = (0..RANDOM_STEPS).map(|_| random::small_step(&mut random));
     parts.push(("random", steps.collect()));
+    parts.push(made(("passes", passes::cases)));
     parts
 }
 

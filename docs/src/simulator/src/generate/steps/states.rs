@@ -103,7 +103,7 @@ fn loops() -> Vec<Bench> {
     ]
 }
 
-/// Passes 0, 1, 32,768, 32,769 and far above, outer and inner.
+/// Passes 0, 1, in the middle of what is accepted, and above it, outer and inner.
 fn passes() -> Vec<Bench> {
     let mut all = Vec::new();
     for passes in [0, 1, 32_768, 32_769, 65_537] {
