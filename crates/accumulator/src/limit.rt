@@ -7,7 +7,7 @@ use crate::mode::{Mode, Target};
 use crate::range;
 
 // An accumulator: its value and its flags O and S.
-#[derive(Drop)]
+#[derive(Clone, Copy)]
 pub struct Accumulator {
     pub value: i64,
     pub overflow: bool,

@@ -3,14 +3,14 @@ ghost use Rattle.std.specs.Prelude.{◌≡◌};
 ghost use Rattle.accumulator.specs.Mode.{reset_mode, mode_of, is_good_mode, saturates};
 
 // The accumulators.
-#[derive(Drop)]
+#[derive(Clone, Copy)]
 pub enum Target {
     A,
     B,
 }
 
 // The mode word taken apart.
-#[derive(Drop)]
+#[derive(Clone, Copy)]
 pub struct Mode {
     pub unsigned: bool,
     pub sata: bool,

@@ -4,7 +4,7 @@ ghost use Rattle.integers.specs.Bits.{signed_of};
 ghost use Rattle.accumulator.specs.Product.{read_of, product_of, square_of};
 
 // A factor: a word, and whether it is read as unsigned.
-#[derive(Drop)]
+#[derive(Clone, Copy)]
 pub struct Factor {
     pub word: u16,
     pub unsigned: bool,

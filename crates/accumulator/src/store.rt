@@ -7,7 +7,7 @@ use crate::mode::Mode;
 use crate::range;
 
 // What a store gives: the word, and whether limiting was needed.
-#[derive(Drop)]
+#[derive(Clone, Copy)]
 pub struct Stored {
     pub word: u16,
     pub limiting: bool,

@@ -5,7 +5,7 @@ ghost use Rattle.address.specs.Region.{x_part, y_part, all_words, is_inside, acc
 use crate::word::{ByteAddress, MEMORY_START, MEMORY_WORDS, WordIndex};
 
 // The words first .. end - 1. `end` is the number of the word after the last, so a count of words may be one.
-#[derive(Drop)]
+#[derive(Clone, Copy)]
 pub struct Region {
     pub first: WordIndex,
     pub end: WordIndex,

@@ -6,7 +6,7 @@ ghost use Rattle.address.specs.Step.{address_sum, stepped_of, is_within, size_of
 use crate::word::ByteAddress;
 
 // A circular buffer: its first and its last byte, the paper's S and E.
-#[derive(Drop)]
+#[derive(Clone, Copy)]
 pub struct Buffer {
     pub start: ByteAddress,
     pub last: ByteAddress,

@@ -3,11 +3,11 @@ ghost use Rattle.std.specs.Prelude.{◌≡◌, ℕ, ◌<◌};
 ghost use Rattle.address.specs.Word.{address_of, word_of};
 
 // The address of a byte of memory, as a register holds it.
-#[derive(Drop)]
+#[derive(Clone, Copy)]
 pub struct ByteAddress(pub u16);
 
 // The number of a word of memory.
-#[derive(Drop)]
+#[derive(Clone, Copy)]
 pub struct WordIndex(pub usize);
 
 // The address of word 0.

@@ -20,7 +20,7 @@ const BAGS: usize = 256;
 const WORDS: usize = 4096;
 
 // The window, and how many items each slice has.
-#[derive(Drop)]
+#[derive(Clone, Copy)]
 struct Sizes {
     window: Window,
     budgets: usize,

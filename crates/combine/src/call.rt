@@ -9,7 +9,7 @@ use accumulator::limit::Accumulator;
 use accumulator::mode::Mode;
 
 // One A with its flags OA and SA, or the refusal's number: 13, 14 or 7.
-#[derive(Drop)]
+#[derive(Clone, Copy)]
 pub enum Combined {
     Sum(Accumulator),
     Refused(u8),

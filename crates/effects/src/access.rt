@@ -3,14 +3,14 @@ use crate::pointer::Change;
 use address::word::WordIndex;
 
 // The two data spaces.
-#[derive(Drop)]
+#[derive(Clone, Copy)]
 pub enum Space {
     X,
     Y,
 }
 
 // Where a word stands: nowhere, in a register, in memory.
-#[derive(Drop)]
+#[derive(Clone, Copy)]
 pub enum Place {
     Nowhere,
     Register(u8),
@@ -18,7 +18,7 @@ pub enum Place {
 }
 
 // An access: its trap, 1 or 2, or 0; the place; what becomes of the pointer.
-#[derive(Drop)]
+#[derive(Clone, Copy)]
 pub struct Access {
     pub trap: u8,
     pub place: Place,

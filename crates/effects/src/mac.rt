@@ -2,7 +2,7 @@
 use crate::access::Access;
 
 // The X read, the Y read and the write.
-#[derive(Drop)]
+#[derive(Clone, Copy)]
 pub struct Accesses {
     pub x: Access,
     pub y: Access,

@@ -2,14 +2,14 @@
 use address::word::ByteAddress;
 
 // What an operand is accessed for.
-#[derive(Drop)]
+#[derive(Clone, Copy)]
 pub enum Purpose {
     Read,
     Store,
 }
 
 // A pointer's change: none, or a register's new address.
-#[derive(Drop)]
+#[derive(Clone, Copy)]
 pub enum Change {
     None,
     To { register: u8, address: ByteAddress },

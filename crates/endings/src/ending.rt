@@ -4,7 +4,7 @@ ghost use Rattle.endings.specs.Ending.{digit_of, decimal_of, filled_to, name_of,
 
 // Done: pc is the count of operations. Spent: the budget's steps are made. Trap: its number, 1 to 7. Refused: its number, 1 to 7 of a run; names have
 // room for two digits.
-#[derive(Drop)]
+#[derive(Clone, Copy)]
 pub enum Ending {
     Done,
     Spent,

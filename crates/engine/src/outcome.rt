@@ -6,7 +6,7 @@ use endings::ending::Ending;
 use state::state::State;
 
 // How a run ended, the state at its end, and the steps made.
-#[derive(Drop)]
+#[derive(Clone, Copy)]
 pub struct Outcome {
     pub ending: Ending,
     pub state: State,

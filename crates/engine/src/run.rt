@@ -20,7 +20,7 @@ use state::settings::Settings;
 use state::state::{Core, Loops, State};
 
 // So many operations from the first one on.
-#[derive(Drop)]
+#[derive(Clone, Copy)]
 pub struct Span {
     pub first: usize,
     pub count: usize,

@@ -16,7 +16,7 @@ use address::word::ByteAddress;
 use state::settings::Settings;
 
 // A trap, 0 none, and the word where there is none.
-#[derive(Drop)]
+#[derive(Clone, Copy)]
 pub struct Read {
     pub trap: u8,
     pub word: u16,

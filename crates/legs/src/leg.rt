@@ -14,7 +14,7 @@ use stepping::step::step;
 
 // Why a leg ends: the operation at pc is outside the window; the budget's steps are made; a trap, its number; or the run goes on with another leg, after
 // REPEAT, after a new mode word, after the repetitions of a pair.
-#[derive(Drop)]
+#[derive(Clone, Copy)]
 pub enum Pause {
     Elsewhere,
     OutOfSteps,
@@ -23,7 +23,7 @@ pub enum Pause {
 }
 
 // Where a leg leaves the run, the steps made, and why it ends.
-#[derive(Drop)]
+#[derive(Clone, Copy)]
 pub struct Leg {
     pub flow: Flow,
     pub steps: u32,

@@ -1,7 +1,7 @@
 // What kinds 19 to 25 do beside their effect.
 
 // What an operation does beside its effect: nothing, or what one of kinds 19 to 25 does to repeat left, loops, the mode word or the flags.
-#[derive(Drop)]
+#[derive(Clone, Copy)]
 pub enum Control {
     None,
     Repeat { count: u16 },

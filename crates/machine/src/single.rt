@@ -9,7 +9,7 @@ use state::state::State;
 
 // The refusal, 0 none; the trap, 0 none; whether a step was made; the state afterwards. Neither refused, trapped nor counted is done: pc is the
 // count of operations.
-#[derive(Drop)]
+#[derive(Clone, Copy)]
 pub struct SingleStep {
     pub refusal: u8,
     pub trap: u8,

@@ -1,7 +1,7 @@
 use crate::operation::Operation;
 
 // What decoding answers: the operation, or that the bytes are none.
-#[derive(Drop)]
+#[derive(Clone, Copy)]
 pub enum Decoded {
     Listed(Operation),
     Refused,

@@ -83,7 +83,7 @@ fn arrive(code: &[u16], at: usize, x: u16, y: u16, w: &mut [u16; 14])
 }
 
 // What an operation reads: its trap, what its pointers and W13 hold, and the words x and y.
-#[derive(Drop)]
+#[derive(Clone, Copy)]
 pub struct Fetched {
     pub trap: u8,
     pub xa: ByteAddress,

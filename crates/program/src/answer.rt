@@ -3,7 +3,7 @@ ghost use Rattle.std.specs.Prelude.{◌≡◌};
 ghost use Rattle.program.specs.Answer.{refusal_number, verdict_number, answer_number, answer_bytes};
 
 // Why something is refused.
-#[derive(Drop)]
+#[derive(Clone, Copy)]
 pub enum Refusal {
     // a file not of 1 to 64 whole blocks; to the writer, not 1 to 4,032 whole operations
     Size,
@@ -39,7 +39,7 @@ impl Refusal {
 }
 
 // What a check answers.
-#[derive(Drop)]
+#[derive(Clone, Copy)]
 pub enum Verdict {
     Accepted,
     Refused(Refusal),
@@ -58,7 +58,7 @@ impl Verdict {
 }
 
 // What a call that fills a lent slice answers: so many bytes written, or its refusal.
-#[derive(Drop)]
+#[derive(Clone, Copy)]
 pub enum Answer {
     Written(usize),
     Refused(Refusal),

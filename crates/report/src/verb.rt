@@ -1,5 +1,5 @@
 // What a call that fills a lent slice did.
-#[derive(Drop)]
+#[derive(Clone, Copy)]
 pub enum Verb {
     Loaded,
     Wrote,

@@ -2,7 +2,7 @@
 ghost use Rattle.std.specs.Prelude.{◌≡◌};
 
 // pc, the number of active loops, repeat left, and the mode word.
-#[derive(Drop)]
+#[derive(Clone, Copy)]
 pub struct Flow {
     pub pc: usize,
     pub depth: usize,

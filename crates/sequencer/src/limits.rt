@@ -8,7 +8,7 @@ use accumulator::mode::{Mode, Target};
 use state::settings::{traps_left, traps_overflow};
 
 // The limits are -1 - high .. high; whether saturation is on; the trap of a result outside the limits and that of an overflow, 0 none.
-#[derive(Drop)]
+#[derive(Clone, Copy)]
 pub struct Limit {
     pub high: i64,
     pub on: bool,
@@ -17,7 +17,7 @@ pub struct Limit {
 }
 
 // Of A and B.
-#[derive(Drop)]
+#[derive(Clone, Copy)]
 pub struct Limits {
     pub a: Limit,
     pub b: Limit,

@@ -12,14 +12,14 @@ use state::settings::Settings;
 use state::state::State;
 
 // Words of memory that the controller fills: `size` of them from word `first` on.
-#[derive(Drop)]
+#[derive(Clone, Copy)]
 pub struct Window {
     pub first: WordIndex,
     pub size: usize,
 }
 
 // What a service came to: the refusal's number, 0 none, and the state after the last bag.
-#[derive(Drop)]
+#[derive(Clone, Copy)]
 pub struct ServiceOutcome {
     pub refusal: u8,
     pub state: State,

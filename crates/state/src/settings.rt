@@ -9,21 +9,21 @@ use address::step::Buffer;
 use address::word::ByteAddress;
 
 // A register with a circular buffer. Register 15 is none.
-#[derive(Drop)]
+#[derive(Clone, Copy)]
 pub struct Circular {
     pub register: u8,
     pub buffer: Buffer,
 }
 
 // The bit-reversed register and its N words. Register 15 is none.
-#[derive(Drop)]
+#[derive(Clone, Copy)]
 pub struct Reversed {
     pub register: u8,
     pub words: u16,
 }
 
 // The words of the X part, the trap word, X's and Y's circular buffers, the bit-reversed register.
-#[derive(Drop)]
+#[derive(Clone, Copy)]
 pub struct Settings {
     pub xwords: usize,
     pub traps: u16,

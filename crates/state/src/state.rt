@@ -7,7 +7,7 @@ use accumulator::mode::Mode;
 use accumulator::status::Status;
 
 // Active loops, outermost first, in four slots: DO's number and passes left. A slot that is not in use is zero.
-#[derive(Drop)]
+#[derive(Clone, Copy)]
 pub struct Loops {
     pub starts: [usize; 4],
     pub passes: [u32; 4],
@@ -15,7 +15,7 @@ pub struct Loops {
 }
 
 // All of a state but the saturation flags: W0..W13, A and B, pc, active loops, repeat left, the mode word, OA and OB.
-#[derive(Drop)]
+#[derive(Clone, Copy)]
 pub struct Core {
     pub w: [u16; 14],
     pub a: i64,
@@ -29,7 +29,7 @@ pub struct Core {
 }
 
 // A state: the core, SA and SB.
-#[derive(Drop)]
+#[derive(Clone, Copy)]
 pub struct State {
     pub core: Core,
     pub sa: bool,

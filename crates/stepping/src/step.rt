@@ -19,7 +19,7 @@ use sequencer::settle::settle;
 use state::settings::Settings;
 
 // What a step leaves: where the run is, its trap, 0 none, whether it counts, and whether it ends a leg: after REPEAT and after a new mode word.
-#[derive(Drop)]
+#[derive(Clone, Copy)]
 pub struct Turn {
     pub flow: Flow,
     pub trap: u8,
