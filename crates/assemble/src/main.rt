@@ -1,5 +1,7 @@
 // Operations as text from standard input, written as a program file to standard output. The text has two hexadecimal digits for each byte; spaces and
 // line ends part them, and a comment goes from # to the end of its line.
+#![tactic(auto)]
+
 ghost use Rattle.std.specs.Prelude.{◌≤◌};
 
 use libc::{STDERR_FILENO, STDIN_FILENO, STDOUT_FILENO};

@@ -1,4 +1,6 @@
 // Services from standard input, each answered by a line on standard output (docs/SERVICE.md has both forms).
+#![tactic(auto)]
+
 ghost use Rattle.std.specs.Prelude.{◌≡◌, ◌*◌, ◌≤◌, length};
 
 use address::word::WordIndex;

@@ -1,5 +1,7 @@
 // Cases from standard input, each answered by a line on standard output: a run, a load, a write, a join, a run over decoded operations or boards
 // combined, in the short form or the long one.
+#![tactic(auto)]
+
 ghost use Rattle.std.specs.Prelude.{◌≡◌, ◌*◌, ◌≤◌, length};
 ghost use Rattle.engine.specs.Decoded.{RunsDecoded};
 ghost use Rattle.combine.specs.Call.{Combines};

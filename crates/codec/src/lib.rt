@@ -1,5 +1,7 @@
 // Operations of document 01 and their bytes: which are listed, 8 bytes to an operation and back.
 // Each contract says that the answer is what a definition of operations gives.
+#![tactic(auto)]
+
 mod bytes;
 pub mod decode;
 pub mod encode;

@@ -1,4 +1,6 @@
 // What all kinds share over an operation's 16 words: its words and fields, registers, reads, operands and stepped pointers, and what an operation comes to.
+#![tactic(auto)]
+
 pub mod carry;
 pub mod operand;
 pub mod pointer;

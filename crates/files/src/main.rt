@@ -1,5 +1,7 @@
 // Load and write requests from standard input, each answered by a line on standard output: the refusal's number or 0, the bytes written,
 // and a check number over the whole lent slice after the call.
+#![tactic(auto)]
+
 use libc::{STDIN_FILENO, STDOUT_FILENO};
 use loader::file::load;
 use loader::write::write;

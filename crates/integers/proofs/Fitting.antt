@@ -25,7 +25,7 @@ fits_floor {z} m h = record { sfits = lt_of_le_of_lt (mag_shr z m) h.sfits }
 
 -- a call's result, as the callee's `ensures` has it: `gave c.f.ensures c.f.ok`
 pub gave : {z s : ℤ} → z ≡ s → mag z < 2 ^ 63 → to_z w64 (of_z w64 z) ≡ s
-gave e h = to_z-of_z (record { sfits = h }) ∙ e
+gave e h = to_z-of_z {w = w64} (record { sfits = h }) ∙ e
 
 -- a shift to the right
 pub floor_plain : {z : ℤ} (m : ℕ) → SFits w64 z → to_z w64 (of_z w64 (shr_z z m)) ≡ shr_z z m

@@ -1,2 +1,4 @@
 // Legs of a run over a window of decoded words.
+#![tactic(auto)]
+
 pub mod leg;

@@ -1,4 +1,6 @@
 // Cases from standard input, in each of which one step is made, answered by a line on standard output.
+#![tactic(auto)]
+
 ghost use Rattle.std.specs.Prelude.{◌*◌, ◌≤◌, length};
 
 use engine::single::single_step;

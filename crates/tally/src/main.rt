@@ -1,4 +1,6 @@
 // A program file from standard input is run, and a line says how it ended: document 01's `tally`.
+#![tactic(auto)]
+
 ghost use Rattle.std.specs.Prelude.{◌≤◌};
 ghost use Rattle.tally.specs.Tally.{Tallies};
 

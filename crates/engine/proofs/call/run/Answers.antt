@@ -1,0 +1,35 @@
+-- `call::run` meets its contract. Assumes nothing.
+use lib.ListN.{length}
+use native.Mathlib.Omega.{arith}
+use mathlib.Core.Path.{◌≡◌, sym, ◌∙◌}
+use Rattle.state.specs.Typed.{AreWords}
+use Rattle.state.proofs.Typing.{typed_state}
+use Rattle.machine.specs.Single.{call_refusal}
+use Rattle.machine.proofs.Calls.{call_file, call_settings, call_state}
+use Rattle.engine.proofs.Calls.{call_refused, call_run}
+use Rattle.engine.proofs.Windows.{x_part_in, none_window}
+use borrow.Author.Rules.{rules}
+use Rattle.engine.proofs.call.run.Goals as goal
+use Rattle.engine.proofs.call.run.Goals.{After-refused}
+
+pub returns-then-number-ne0 : goal.returns-then-number-ne0
+returns-then-number-ne0 c =
+    rw c.refused.ensures
+    (call_refused c.args.file.now c.args.settings c.args.state c.args.memory.now c.args.budget _
+    c.refusal-number.ensures c.if-number-ne0.true)
+
+pub run_accepted-requires : goal.run_accepted-requires
+run_accepted-requires c =
+    let none : call_refusal c.args.file.now c.args.settings c.args.state (length c.args.memory.now) ≡ 0 =
+    sym c.refusal-number.ensures ∙ c.if-number-ne0.false in
+    let accepted = call_file _ _ _ _ none in
+    (accepted, (call_state _ _ _ _ none, (x_part_in _ _ (call_settings _ _ _ _ none), (none_window c.args.file.now _ accepted, omega arith))))
+
+pub returns : goal.returns
+returns-then-number-ne0 (goal.at.returns c).After-refused =
+    let none : call_refusal c.args.file.now c.args.settings c.args.state (length c.args.memory.now) ≡ 0 =
+    sym c.refusal-number.ensures ∙ c.if-number-ne0.false in
+    let typed = typed_state c.args.state _ c.well_formed.1.1.0 in
+    let ram : AreWords c.args.memory.now = λ i. omega (arith, c.slice_known-1.given i) in
+    call_run c.args.file.now c.args.settings c.args.state c.args.memory.now c.args.budget none typed ram _ _
+    c.run_accepted.ensures.memory_after

@@ -1,0 +1,8 @@
+-- `words::target` meets its contract: a listed operation's target is 0 or 1. Assumes nothing.
+use Rattle.fields.proofs.Targets.{encoded-target}
+use borrow.Author.Rules.{rules}
+use Rattle.fields.proofs.words.target.Goals as goal
+
+pub returns : goal.returns
+returns c =
+    (c.word.ensures, rw c.word.ensures (encoded-target c.requires.encoded c.requires.at_bound))

@@ -1,0 +1,11 @@
+-- `block::put_unsummed` meets its contract: a header, a part with the operations, a part with zeros.
+use native.Mathlib.Omega.{arith}
+use Rattle.program.proofs.Blocks.{unsummed_put}
+use borrow.Author.Rules.{rules}
+use Rattle.loader.proofs.block.put_unsummed.Goals as goal
+
+pub returns : goal.returns
+returns c =
+    unsummed_put c.args.k c.args.body.now c.args.out.now
+    c.put_header.new.1.1.0 c.copy.new.1.0 c.clear.new.0
+    (omega arith) (omega arith) c.put_header.ensures c.copy.ensures c.clear.ensures

@@ -1,0 +1,19 @@
+-- `mac::mac` meets its contract: a pair, or a trap without effect, or the work. Assumes nothing.
+use Rattle.std.proofs.Common.{sym, ◌∙◌, rules}
+use Rattle.products.proofs.Works.{mac_trapped}
+use Rattle.products.proofs.mac.mac.Goals as goal
+
+pub pair-requires : goal.pair-requires
+pair-requires c =
+    (c.requires.encoded, (sym c.is_pair.ensures ∙ c.if-is_pair.true, c.requires.1.1))
+
+pub returns-then-trap-ne0 : goal.returns-then-trap-ne0
+returns-then-trap-ne0 c =
+    let a = c.args in
+    rw c.trapped.ensures
+    (mac_trapped a.settings a.mode a.acc.now a.w.now a.memory.now c.fetch-f.result c.requires.encoded c.requires.at_bound c.fetch-f.ensures
+    c.if-trap-ne0.true)
+
+pub carry_out-requires : goal.carry_out-requires
+carry_out-requires c =
+    (c.requires.encoded, (c.requires.at_bound, (c.requires.accumulators, (c.fetch-f.ensures, c.if-trap-ne0.false))))

@@ -1,0 +1,16 @@
+-- `mac::plus` meets its contract: an accumulator and a product stay below 2^40. Assumes nothing.
+use Rattle.std.proofs.Common.{◌*◌, ◌^◌, ◌<◌, ◌≤◌, ◌+ℤ◌, nat_abs, to_z-of_z}
+use lib.Signed.{mag}
+use Rattle.integers.proofs.Whole.{whole, size, sum, abs_is}
+use Rattle.accumulator.proofs.Sizes.{accumulator_within}
+use Rattle.products.proofs.mac.plus.Goals as goal
+
+pub overflow_add-result : goal.overflow_add-result
+overflow_add-result c =
+    let v : mag c.args.v < 2 ^ 39 = accumulator_within _ c.requires.v_value in
+    let p : nat_abs c.args.p ≤ 65535 * 65535 * 2 = c.requires.p_bound in
+    rw (to_z-of_z c.ranges.v, to_z-of_z c.ranges.p)
+    (omega (whole, v, p, size c.args.v, size c.args.p, abs_is c.args.p, size (c.args.v +ℤ c.args.p), sum c.args.v c.args.p))
+
+pub returns : goal.returns
+returns c = rw (to_z-of_z (overflow_add-result c), to_z-of_z c.ranges.v, to_z-of_z c.ranges.p)

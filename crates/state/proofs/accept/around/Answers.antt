@@ -1,0 +1,31 @@
+-- `accept::around` meets its contract. The invariant: so many of the operations passed open a loop around pc. Assumes nothing.
+use Prim.Native.Nat.{◌≤◌, ◌-◌}
+use mathlib.Core.Path.{◌≡◌, refl, sym, ap, ◌∙◌}
+use mathlib.Core.Logic.{⊎_elim}
+use native.Mathlib.Omega.{arith}
+use Rattle.program.specs.File.{program_of}
+use Rattle.state.specs.Accept.{around_in}
+use Rattle.state.proofs.Around.{around_more, around_same}
+use Rattle.state.proofs.accept.around.Goals as goal
+
+pub loop-d-init : goal.loop-d-init
+loop-d-init c = (omega arith, omega arith, refl)
+
+pub is_around-requires : goal.is_around-requires
+is_around-requires c = (c.requires.file_value, omega (arith, c.requires.pc_bound))
+
+pub loop-d-preserved : goal.loop-d-preserved
+loop-d-preserved c =
+    let loop = c.loop-d in
+    let args = c.args in
+    let p = program_of args.file.now in
+    ⊎_elim
+    (λ w. (omega arith, omega arith, w.1 ∙ around_more p args.pc loop.d loop.count loop.invariant.2 (sym c.is_around.ensures ∙ w.0.taken)))
+    (λ w. (omega arith, omega arith, w.1 ∙ around_same p args.pc loop.d loop.count loop.invariant.2 (sym c.is_around.ensures ∙ w.0.left)))
+    c.if-is_around.branch
+
+pub returns : goal.returns
+returns c =
+    let args = c.args in
+    let end : c.loop-d.d ≡ args.pc = omega arith in
+    c.loop-d.invariant.2 ∙ ap (around_in (program_of args.file.now) args.pc) end

@@ -1,0 +1,44 @@
+-- `accept::stand` meets its contract. The invariant: the loops around pc that the operations passed open are counted, and stand in their slots.
+use Prim.Native.Nat.{◌≤◌, ◌-◌}
+use mathlib.Core.Path.{◌≡◌, refl, sym, ap, ◌∙◌}
+use mathlib.Core.Logic.{⊎_elim}
+use native.Mathlib.Omega.{arith}
+use Rattle.program.specs.File.{program_of}
+use Rattle.state.specs.Accept.{around_in, stand_in}
+use Rattle.state.proofs.Around.{around_more, around_same, stand_more, stand_same}
+use Rattle.state.proofs.accept.stand.Goals as goal
+
+pub loop-d-init : goal.loop-d-init
+loop-d-init c = (omega arith, omega arith, refl, refl)
+
+pub is_around-requires : goal.is_around-requires
+is_around-requires c = (c.requires.file_value, omega (arith, c.requires.pc_bound))
+
+pub loop-d-preserved : goal.loop-d-preserved
+loop-d-preserved c =
+    let loop = c.loop-d in
+    let args = c.args in
+    let p = program_of args.file.now in
+    let opens = c.is_around.ensures in
+    ⊎_elim
+    (λ w.
+    let yes = sym opens ∙ w.0.taken in (
+      omega arith,
+      omega arith,
+      w.3 ∙ around_more p args.pc loop.d loop.count loop.invariant.2 yes,
+      w.2 ∙ rw w.1.ensures (stand_more p args.pc loop.d loop.count loop.invariant.2 args.starts loop.good loop.invariant.3 yes),
+    ))
+    (λ w.
+    let no = sym opens ∙ w.0.left in (
+      omega arith,
+      omega arith,
+      w.2 ∙ around_same p args.pc loop.d loop.count loop.invariant.2 no,
+      w.1 ∙ stand_same p args.pc loop.d loop.count loop.invariant.2 args.starts loop.good loop.invariant.3 no,
+    ))
+    c.if-is_around.branch
+
+pub returns : goal.returns
+returns c =
+    let args = c.args in
+    let end : c.loop-d.d ≡ args.pc = omega arith in
+    c.loop-d.invariant.3 ∙ ap (stand_in (program_of args.file.now) args.pc args.starts) end

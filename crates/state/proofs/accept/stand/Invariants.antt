@@ -1,0 +1,17 @@
+-- `accept::stand` meets its contract. The invariant: the loops around pc that the operations passed open are counted, and stand in their slots.
+use Prim.Native.Nat.{◌≤◌, ◌-◌}
+use mathlib.Core.Path.{◌≡◌, refl, sym, ap, ◌∙◌}
+use mathlib.Core.Logic.{⊎_elim}
+use native.Mathlib.Omega.{arith}
+use Rattle.program.specs.File.{program_of}
+use Rattle.state.specs.Accept.{around_in, stand_in}
+use Rattle.state.proofs.Around.{around_more, around_same, stand_more, stand_same}
+use Rattle.state.proofs.accept.stand.Given as goal
+
+-- Assumes nothing.
+abbrev pub invariant-loop-d : goal.invariant-loop-d
+invariant-loop-d l =
+    (l.d ≤ l.pc) × (l.count ≤ l.d) × (l.count ≡ around_in (program_of l.file) l.pc l.d) × (l.good ≡ stand_in (program_of l.file) l.pc l.starts l.d)
+
+abbrev pub decreases-loop-d : goal.decreases-loop-d
+decreases-loop-d l = l.pc - l.d

@@ -1,0 +1,30 @@
+-- `step::step` meets its contract: each family is handed its kinds. Assumes nothing.
+use native.Mathlib.Omega.{arith}
+use borrow.Author.Rules.{rules}
+use Rattle.stepping.proofs.step.step.Goals as goal
+
+pub step_work-requires : goal.step_work-requires
+step_work-requires c =
+    let pre = c.requires in
+    (pre.0, (omega (arith, c.kind-which.ensures, c.if-which-lt19.true), pre.1))
+
+pub step_begin-requires : goal.step_begin-requires
+step_begin-requires c =
+    let pre = c.requires in
+    let kind = c.kind-which.ensures in
+    (pre.0, (omega (arith, kind, c.if-which-lt19.false), (omega (arith, kind, c.if-which-lt23.true), pre.1.1.1.1.1)))
+
+pub returns-then-which-lt23 : goal.returns-then-which-lt23
+returns-then-which-lt23 c =
+    let a = c.args in
+    λ p follows. c.step_begin.ensures p a.settings a.acc.now a.oflags.now a.sflags.now a.memory.now c.requires.twos follows
+
+pub step_control-requires : goal.step_control-requires
+step_control-requires c =
+    let pre = c.requires in
+    (pre.0, (omega (arith, c.kind-which.ensures, c.if-which-lt23.false), pre.1.1.1.1.1))
+
+pub returns : goal.returns
+returns c =
+    let a = c.args in
+    λ p follows. c.step_control.ensures p a.settings a.w.now a.acc.now a.oflags.now a.memory.now c.requires.twos follows
