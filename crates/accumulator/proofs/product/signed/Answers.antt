@@ -14,4 +14,4 @@ returns c =
     let raised : Fits w16 c.wrapping_add_u16-raised.result = search rules in
     let word : Fits w16 c.args.word = search rules in
     rw (word_plain raised, to_z-of_z (raised_fits c.wrapping_add_u16-raised.result raised.fits))
-    (signed_raised c.args.word c.wrapping_add_u16-raised.result word.fits c.wrapping_add_u16-raised.ensures)
+    (signed_raised c.args.word c.wrapping_add_u16-raised.result word.fits c.wrapping_add_u16-raised.ensures.value)

@@ -9,6 +9,6 @@ pub returns : goal.returns
 unfolding stepped_of
 returns c =
     let step = c.wide in
-    c.wrapping_add_u16.ensures
+    c.wrapping_add_u16.ensures.value
     ∙ rw (c.low_word-by.ensures, gave (step.ensures ∙ to_z-of_z c.ranges.step) step.type_inv)
     (wrapped 16 c.args.a.0 c.args.step)

@@ -4,4 +4,4 @@ use Rattle.address.proofs.step.sum.Goals as goal
 
 pub returns : goal.returns
 unfolding address_sum
-returns c = c.wrapping_add_u16.ensures
+returns c = c.wrapping_add_u16.ensures.value

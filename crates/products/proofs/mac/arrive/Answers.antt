@@ -26,7 +26,7 @@ returns-then-which c =
     let second : a.y < 2 ^ 16 = search rules in
     let which = rw c.kind-which.ensures at c.if-which.true in
     rw (c.set_register.ensures, c.word-xto.ensures)
-    (arrived_difference a.code.now a.at a.x a.y a.w.now r which first second small c.wrapping_sub_u16.ensures)
+    (arrived_difference a.code.now a.at a.x a.y a.w.now r which first second small c.wrapping_sub_u16.ensures.value)
 
 pub returns-else-which : goal.returns-else-which
 returns-else-which c =
