@@ -317,6 +317,8 @@ def turn_file(path, crate, data, all_clauses, say):
             for a in args[1:]:
                 if re.search(rf"{BARE}{a}{END}", tail):
                     said.append(f"{a} is used in {d['new']}")
+            tail = fields_of(fn, tail)
+            tail = as_record(tail, asked_clauses(fn, d["new"]))
             d["out"] = f"pub {d['new']} : goal.{d['new']}\n{lead}{d['new']} c ={tail}"
             answers.append(d)
         elif d["kind"] == "helper":
@@ -338,10 +340,12 @@ def turn_file(path, crate, data, all_clauses, say):
                 if d["kind"] != "answer":
                     said.append(f"{d['name']} cites the answer {e['name']} ({e['new']})")
                 elif fn.asked[d["new"]] == at:
-                    d["out"] = re.sub(rf"{BARE}{re.escape(e['name'])}{END}", e["new"], d["out"])
+                    d["out"] = re.sub(rf"(?<=[^\n]){BARE}{re.escape(e['name'])} c{END}", f"{e['new']} c", d["out"])
                 else:
-                    turner.used.add(at)
-                    d["out"] = re.sub(rf"{BARE}{re.escape(e['name'])} c{END}", f"{e['new']} (goal.at.{d['new']} c).{at}", d["out"])
+                    cites = rf"(?<=[^\n]){BARE}{re.escape(e['name'])} c{END}"
+                    if re.search(cites, d["out"]):
+                        turner.used.add(at)
+                        d["out"] = re.sub(cites, f"{e['new']} (goal.at.{d['new']} c).{at}", d["out"])
     # arguments written in place
     named = {d["name"]: d for d in decls}
     needs = [a for a in spec_args if not re.match(r"(invariant|decreases)-", a)]
@@ -364,6 +368,88 @@ def turn_file(path, crate, data, all_clauses, say):
     write(path, crate, parts, head, decls, invariants, answers, turner.used)
     for s in said:
         say(f"{path}: {s}")
+
+
+def fields_of(fn, tail):
+    """Clauses of a step that a `let` names, as `far.ensures.0` after `let far = c.f in`."""
+    for name, step in re.findall(r"let ([\w'-]+) = c\.([\w'-]+) in", tail):
+        for kind in ("ensures", "requires"):
+            names = fn.names_of(step, kind) if step in fn.callee else []
+            if len(names) < 2:
+                continue
+
+            def one(m):
+                i, rest = clause_path(names, m[1].split(".")[1:])
+                return m[0] if i is None or names[i] is None else ".".join([f"{name}.{kind}.{names[i]}"] + rest)
+
+            tail = re.sub(rf"{BARE}{re.escape(name)}\.{kind}((?:\.[01])+)(?![\w'])", one, tail)
+    return tail
+
+
+def asked_clauses(fn, goal):
+    if goal.startswith("returns"):
+        return fn.own.get("ensures", [])
+    if "-requires" in goal:
+        step = goal[: goal.index("-requires")]
+        if step in fn.callee:
+            return fn.names_of(step, "requires")
+        for s, c in fn.callee.items():
+            if s.split("-")[0] == step:
+                return fn.names_of(s, "requires")
+    return []
+
+
+def split_tuple(t):
+    """The two parts of a pair in parentheses, the second with all that follows the first comma."""
+    t = t.strip()
+    if not t.startswith("("):
+        return None
+    d, parts, start = 0, [], 1
+    for i, ch in enumerate(t):
+        if ch in "([{":
+            d += 1
+        elif ch in ")]}":
+            d -= 1
+            if d == 0:
+                if i != len(t) - 1:
+                    return None
+                parts.append(t[start:i])
+        elif ch == "," and d == 1:
+            parts.append(t[start:i])
+            start = i + 1
+    parts = [x.strip() for x in parts]
+    if parts and not parts[-1]:
+        parts.pop()
+    return parts if len(parts) > 1 else None
+
+
+def as_record(tail, names):
+    """A tuple at the end of an answer to named clauses, as a record of them."""
+    if len(names) < 2 or any(n is None for n in names):
+        return tail
+    m = re.match(r"^((?:\s*let .*? in\b(?=\s)(?:\s*\n)?)*)(\s*)(\(.*)$", tail, re.S)
+    cut = [m.start(3)] if m else []
+    cut += [m.end(1) for m in re.finditer(r"\bin (\()|\bin\n\s*(\()", tail)]
+    places = sorted({i for i in range(len(tail)) if tail[i] == "("})
+    for i in places:
+        before = tail[:i].rstrip()
+        if before and not re.search(r"\bin$", before):
+            continue
+        parts, rest = [], tail[i:]
+        while len(parts) < len(names) - 1:
+            got = split_tuple(rest)
+            if not got:
+                break
+            if len(got) > 2:
+                parts += got[:-1]
+                rest = got[-1]
+            else:
+                parts.append(got[0])
+                rest = got[1]
+        parts.append(rest.strip())
+        if len(parts) == len(names):
+            return tail[:i] + "record { " + "; ".join(f"{n} = {x}" for n, x in zip(names, parts)) + " }"
+    return tail
 
 
 def align(needs, named, order):

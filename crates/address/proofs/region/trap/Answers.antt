@@ -8,7 +8,7 @@ use Rattle.address.proofs.region.trap.Goals as goal
 pub returns-then-has : goal.returns-then-has
 returns-then-has c =
     let number = c.aligned_word in
-    sym (has_word _ _ number.result.0 number.ensures.0 (sym c.has.ensures ∙ c.if-has.true)).2
+    sym (has_word _ _ number.result.0 number.ensures.self_value (sym c.has.ensures ∙ c.if-has.true)).2
 
 pub returns-then-at-eq1 : goal.returns-then-at-eq1
 unfolding access_trap
@@ -21,4 +21,4 @@ returns-else-at-eq1 c =
     let small : Fits w16 a.a.0 = search rules in
     let none = sym c.has.ensures ∙ c.if-has.false in
     outside_trap_lem a.region a.a.0 (ne_eqb _ _ c.if-at-eq1.false)
-    (λ z. never (sym none ∙ free_has a.region a.a.0 number.result.0 small.fits number.ensures.1 z))
+    (λ z. never (sym none ∙ free_has a.region a.a.0 number.result.0 small.fits number.ensures.by_index z))

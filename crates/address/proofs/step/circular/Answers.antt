@@ -11,7 +11,6 @@ use Rattle.address.proofs.step.stepped.Reads as stepped-reads
 use Rattle.address.proofs.step.unreduced.Reads as unreduced-reads
 use Rattle.address.proofs.step.within.Reads as within-reads
 use Rattle.address.proofs.step.circular.Goals as goal
-use Rattle.address.proofs.step.circular.Goals.{After-low_word}
 
 -- the point after the call of `unreduced`, and the function's entry
 abbrev claims : lts.Claims
@@ -66,7 +65,7 @@ returns-then-within-2 c =
     (sym c.within-then-e-to.ensures ∙ c.if-within-2.true) c.if-e-to.true
 
 pub returns : goal.returns
-returns-then-within (goal.at.returns c).After-low_word =
+returns c =
     c.stepped.ensures
     ∙ rw (to_z-of_z (start c).ranges.step)
     (plain (known c)

@@ -8,7 +8,6 @@ use Rattle.operations.proofs.Same.{same_next, same_end}
 use borrow.Author.Rules.{rules}
 use native.Mathlib.Omega.{arith}
 use Rattle.codec.proofs.bytes.is_same.Goals as goal
-use Rattle.codec.proofs.bytes.is_same.Goals.{Then-a-i}
 
 pub loop-i-init : goal.loop-i-init
 loop-i-init c = (omega arith, search rules, search rules, refl)
@@ -28,5 +27,5 @@ loop-i-preserved c =
     (omega arith, c.loop-i.invariant.1, c.loop-i.invariant.2, sym (same_next a b i (omega arith) (omega arith) ∙ simp (eq-eqb _ _ c.if-a-i.false)) ∙ c.loop-i.invariant.3)
 
 pub returns : goal.returns
-returns-then-a-i (goal.at.returns c).Then-a-i =
+returns c =
     sym (same_end c.args.t1 c.args.t2 c.loop-i.i (omega arith) (omega arith)) ∙ c.loop-i.invariant.3

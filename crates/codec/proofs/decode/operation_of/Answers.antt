@@ -3,7 +3,6 @@ use borrow.Author.Tests.{le-leb, lt-leb}
 use Rattle.operations.specs.Decode.{operation_of}
 use borrow.Author.Rules.{rules}
 use Rattle.codec.proofs.decode.operation_of.Goals as goal
-use Rattle.codec.proofs.decode.operation_of.Goals.{After-mac_of}
 
 pub returns-then-kind-le7 : goal.returns-then-kind-le7
 unfolding operation_of
@@ -23,4 +22,4 @@ returns-then-kind-le18 c = rw (lt-leb _ _ c.if-kind-le7.false, lt-leb _ _ c.if-k
 
 pub returns : goal.returns
 unfolding operation_of
-returns-then-kind-le7 (goal.at.returns c).After-mac_of = rw (lt-leb _ _ c.if-kind-le7.false, lt-leb _ _ c.if-kind-le11.false, lt-leb _ _ c.if-kind-le15.false, lt-leb _ _ c.if-kind-le18.false, c.control_operation_of.ensures)
+returns c = rw (lt-leb _ _ c.if-kind-le7.false, lt-leb _ _ c.if-kind-le11.false, lt-leb _ _ c.if-kind-le15.false, lt-leb _ _ c.if-kind-le18.false, c.control_operation_of.ensures)

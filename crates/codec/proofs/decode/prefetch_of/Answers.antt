@@ -1,7 +1,6 @@
 -- `decode::prefetch_of` meets its contract: each return rewrites with the tests that led there.
 use borrow.Author.Tests.{eq-eqb, ne_eqb}
 use Rattle.codec.proofs.decode.prefetch_of.Goals as goal
-use Rattle.codec.proofs.decode.prefetch_of.Goals.{Then-b-eq0}
 
 pub returns-then-b-eq0 : goal.returns-then-b-eq0
 returns-then-b-eq0 c = rw (eq-eqb _ _ c.if-b-eq0.true)
@@ -10,4 +9,4 @@ pub returns-then-b-sum : goal.returns-then-b-sum
 returns-then-b-sum c = rw (ne_eqb _ _ c.if-b-eq0.false, eq-eqb _ _ c.if-b-sum.true)
 
 pub returns : goal.returns
-returns-then-b-eq0 (goal.at.returns c).Then-b-eq0 = rw (ne_eqb _ _ c.if-b-eq0.false, ne_eqb _ _ c.if-b-sum.false)
+returns c = rw (ne_eqb _ _ c.if-b-eq0.false, ne_eqb _ _ c.if-b-sum.false)

@@ -4,7 +4,6 @@ use borrow.Author.Rules.{rules}
 use Rattle.combine.proofs.Boards.{accepted_boards}
 use Rattle.combine.proofs.Calls.{combine_refused, combine_accepted}
 use Rattle.combine.proofs.call.combine.Goals as goal
-use Rattle.combine.proofs.call.combine.Goals.{Then-refused-ne0}
 
 pub returns-then-refused-ne0 : goal.returns-then-refused-ne0
 returns-then-refused-ne0 c =
@@ -18,7 +17,7 @@ add_up-requires c =
     accepted_boards start.boards start.count start.mode (sym c.refusal-refused.ensures ∙ c.if-refused-ne0.false)
 
 pub returns : goal.returns
-returns-then-refused-ne0 (goal.at.returns c).Then-refused-ne0 =
+returns c =
     let start = c.args in
     rw (c.add_up.ensures, c.of.ensures)
     (combine_accepted start.boards start.count start.mode (sym c.refusal-refused.ensures ∙ c.if-refused-ne0.false))

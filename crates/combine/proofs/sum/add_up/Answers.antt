@@ -28,7 +28,7 @@ add-sum-requires c =
     let at-loop = c.loop-i in
     let a = (board_at c.args.t1 at-loop.i).a in
     let back : to_z w64 (of_z w64 a) ≡ a = search rules in
-    (at-loop.invariant.2, rw back (accumulator_at_lem c.args.t1 c.args.count at-loop.i c.requires.count_value (omega arith)))
+    record { value_value = at-loop.invariant.2; a_value = rw back (accumulator_at_lem c.args.t1 c.args.count at-loop.i c.requires.count_value (omega arith)) }
 
 pub overflow_add-i : goal.overflow_add-i
 overflow_add-i c = omega (arith, c.requires.count_bound)

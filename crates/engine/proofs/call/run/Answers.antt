@@ -10,7 +10,6 @@ use Rattle.engine.proofs.Calls.{call_refused, call_run}
 use Rattle.engine.proofs.Windows.{x_part_in, none_window}
 use borrow.Author.Rules.{rules}
 use Rattle.engine.proofs.call.run.Goals as goal
-use Rattle.engine.proofs.call.run.Goals.{After-refused}
 
 pub returns-then-number-ne0 : goal.returns-then-number-ne0
 returns-then-number-ne0 c =
@@ -23,10 +22,10 @@ run_accepted-requires c =
     let none : call_refusal c.args.file.now c.args.settings c.args.state (length c.args.memory.now) ≡ 0 =
     sym c.refusal-number.ensures ∙ c.if-number-ne0.false in
     let accepted = call_file _ _ _ _ none in
-    (accepted, (call_state _ _ _ _ none, (x_part_in _ _ (call_settings _ _ _ _ none), (none_window c.args.file.now _ accepted, omega arith))))
+    record { file_value = accepted; state_value = call_state _ _ _ _ none; xwords_in_bounds = x_part_in _ _ (call_settings _ _ _ _ none); covers = none_window c.args.file.now _ accepted; in_bounds = omega arith }
 
 pub returns : goal.returns
-returns-then-number-ne0 (goal.at.returns c).After-refused =
+returns c =
     let none : call_refusal c.args.file.now c.args.settings c.args.state (length c.args.memory.now) ≡ 0 =
     sym c.refusal-number.ensures ∙ c.if-number-ne0.false in
     let typed = typed_state c.args.state _ c.well_formed.1.1.0 in

@@ -13,7 +13,6 @@ use Rattle.machine.proofs.Calls.{call_file, call_settings, call_state}
 use Rattle.engine.proofs.Windows.{x_part_in, whole_window, decoded_refused, decoded_short, decoded_runs}
 use borrow.Author.Rules.{rules}
 use Rattle.engine.proofs.decoded.run_decoded.Goals as goal
-use Rattle.engine.proofs.decoded.run_decoded.Goals.{After-refused}
 
 pub returns-then-number-ne0 : goal.returns-then-number-ne0
 returns-then-number-ne0 c =
@@ -45,7 +44,7 @@ pub decode_program-requires : goal.decode_program-requires
 decode_program-requires c =
     let none : call_refusal c.args.file.now c.args.settings c.args.state (length c.args.memory.now) ≡ 0 =
     sym c.refusal-number.ensures ∙ c.if-number-ne0.false in
-    (call_file _ _ _ _ none, rw c.operation_count-count.ensures at c.if-words-count.false)
+    record { file_value = call_file _ _ _ _ none; file_in_bounds = rw c.operation_count-count.ensures at c.if-words-count.false }
 
 pub run_accepted-requires : goal.run_accepted-requires
 run_accepted-requires c =
@@ -57,10 +56,10 @@ run_accepted-requires c =
     let room : 16 * operation_count file ≤ length c.args.words.now = rw count at c.if-words-count.false in
     let one = (count_range file (accepted_blocks file accepted)).0 in
     let long = c.decode_program.auto.1.0 in
-    (accepted, (call_state _ _ _ _ none, (x_part_in _ _ (call_settings _ _ _ _ none), (rw count (whole_window file _ _ accepted c.decode_program.ensures), omega (arith, room, one, long)))))
+    record { file_value = accepted; state_value = call_state _ _ _ _ none; xwords_in_bounds = x_part_in _ _ (call_settings _ _ _ _ none); covers = rw count (whole_window file _ _ accepted c.decode_program.ensures); in_bounds = omega (arith, room, one, long) }
 
 pub returns : goal.returns
-returns-then-number-ne0 (goal.at.returns c).After-refused =
+returns c =
     let a = c.args in
     let file = a.file.now in
     let none : call_refusal c.args.file.now c.args.settings c.args.state (length c.args.memory.now) ≡ 0 =

@@ -9,7 +9,6 @@ use Rattle.operations.specs.declared.operation.Operation.TheVariants.{EndEarly}
 use Rattle.engine.proofs.Windows.{one_window}
 use borrow.Author.Rules.{rules}
 use Rattle.engine.proofs.run.cover.Goals as goal
-use Rattle.engine.proofs.run.cover.Goals.{Then-at-pc}
 
 pub returns-then-at-pc : goal.returns-then-at-pc
 returns-then-at-pc c =
@@ -18,7 +17,7 @@ returns-then-at-pc c =
     record { covers = c.requires.covers; low = leb-true _ _ parts.0; high = ltb-true _ _ parts.1; stays = λ low high. (refl, refl) }
 
 pub returns : goal.returns
-returns-then-at-pc (goal.at.returns c).Then-at-pc =
+returns c =
     let at = c.args.at in
     let pc = c.args.pc in
     record {

@@ -5,4 +5,4 @@ use Rattle.engine.proofs.run.last_for.Goals as goal
 
 pub last_at-requires : goal.last_at-requires
 last_at-requires c =
-    (c.requires.file_value, c.requires.by_index c.args.i (omega (arith, c.if-depth-i.false)))
+    record { file_value = c.requires.file_value; i_bound = c.requires.by_index c.args.i (omega (arith, c.if-depth-i.false)) }

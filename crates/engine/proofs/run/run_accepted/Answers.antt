@@ -18,7 +18,7 @@ lasts_of-lasts-requires c =
     let accepted = c.requires.file_value in
     let stands = accepted_stands (program_of file) s (typed_state s _ c.well_formed.1.1.1.1.0) c.requires.state_value in
     let nested = stands.nested in
-    (accepted, (nested.four.0, (nested.few, λ j l. let k = nested.begun j l in omega (arith, k, stands.at, program_length file accepted))))
+    record { file_value = accepted; starts_len = nested.four.0; depth_bound = nested.few; by_index = λ j l. let k = nested.begun j l in omega (arith, k, stands.at, program_length file accepted) }
 
 pub run_windows-r-requires : goal.run_windows-r-requires
 run_windows-r-requires c =
@@ -40,4 +40,4 @@ returns c =
     let sums = rw (accumulator_kept s.core.a stands.a, accumulator_kept s.core.b stands.b) at c.sums_of-acc.ensures in
     let ran = c.run_windows-r.ensures in
     let same = state_runs (program_of file) c.args.settings s c.lasts_of-lasts.result c.args.memory.now sums c.args.budget in
-    (rw (c.Ending-of.ensures, c.state_of-last.ensures) (rw c.flow_of-flow.ensures at ran.0 ∙ same), ran.1)
+    record { memory_after = rw (c.Ending-of.ensures, c.state_of-last.ensures) (rw c.flow_of-flow.ensures at ran.0 ∙ same); words_unchanged = ran.1 }

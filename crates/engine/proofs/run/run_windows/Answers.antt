@@ -28,7 +28,7 @@ returns-then-pc-count c =
     let file = a.file.now in
     let inv = c.loop-settings.invariant in
     let count = c.operation_count-count.ensures ∙ sym (program_length file c.requires.file_value) in
-    (way_done inv.0 (c.if-pc-count.true ∙ count) ∙ all_left (program_of file) a.settings a.budget (engine_in h a.flow), λ e. (inv.1.1.1 e).1)
+    record { result_after = way_done inv.0 (c.if-pc-count.true ∙ count) ∙ all_left (program_of file) a.settings a.budget (engine_in h a.flow); words_unchanged = λ e. (inv.1.1.1 e).1 }
 
 pub cover-here-requires : goal.cover-here-requires
 cover-here-requires c =
@@ -37,12 +37,12 @@ cover-here-requires c =
     let inv = c.loop-settings.invariant in
     let count = c.operation_count-count.ensures ∙ sym (program_length file accepted) in
     let below = rw (program_length file accepted) at (at_operation inv.0.along (λ e. c.if-pc-count.false (e ∙ sym count))) in
-    (accepted, (below, (inv.1.0, rw inv.1.1.0 c.requires.in_bounds)))
+    record { file_value = accepted; pc_bound = below; covers = inv.1.0; in_bounds = rw inv.1.1.0 c.requires.in_bounds }
 
 pub run_on-r-requires : goal.run_on-r-requires
 run_on-r-requires c =
     let inv = c.loop-settings.invariant in
-    (record { program = program_of c.args.file.now; window = c.cover-here.ensures.covers; stood = way_stood inv.0 }, inv.0.along.within)
+    record { known = record { program = program_of c.args.file.now; window = c.cover-here.ensures.covers; stood = way_stood inv.0 }; steps_le_budget = inv.0.along.within }
 
 pub returns-then-not-is_elsewhere : goal.returns-then-not-is_elsewhere
 returns-then-not-is_elsewhere c =
@@ -57,7 +57,7 @@ returns-then-not-is_elsewhere c =
     let went = c.run_on-r.ensures in
     let leg = went.0 (program_of file) has.covers (way_stood inv.0) in
     let stays = sym c.is_elsewhere.ensures ∙ not-true _ c.if-not-is_elsewhere.true in
-    (goes_ended inv.0 _ (rw went.1 stays) leg ∙ all_left (program_of file) a.settings a.budget (engine_in h a.flow), λ e. (kept_whole inv.1.1.1 below has e).1)
+    record { result_after = goes_ended inv.0 _ (rw went.1 stays) leg ∙ all_left (program_of file) a.settings a.budget (engine_in h a.flow); words_unchanged = λ e. (kept_whole inv.1.1.1 below has e).1 }
 
 pub loop-settings-smaller : goal.loop-settings-smaller
 loop-settings-smaller c =

@@ -7,7 +7,6 @@ use Rattle.address.proofs.Regions.{free_word}
 use Rattle.effects.specs.Access.{word_at}
 use Rattle.fields.proofs.Operands.{register_operand, memory_operand}
 use Rattle.fields.proofs.operand.operand_word.Goals as goal
-use Rattle.fields.proofs.operand.operand_word.Goals.{Then-form-eq0}
 
 pub returns-then-form-eq0 : goal.returns-then-form-eq0
 unfolding word_at
@@ -23,6 +22,6 @@ word_at-requires c =
 
 pub returns : goal.returns
 unfolding word_at
-returns-then-form-eq0 (goal.at.returns c).Then-form-eq0 =
+returns c =
     let a = c.args in
     λ settings purpose r w e. rw (memory_operand settings purpose r a.form (length a.memory.now) a.a.0 w c.if-form-eq0.false e) c.word_at_lem.ensures

@@ -24,15 +24,9 @@ bounds-memory-at c =
 pub returns-then-form-eq0 : goal.returns-then-form-eq0
 unfolding put_register put_memory
 returns-then-form-eq0 c =
-    let a = c.args in (
-      (λ settings purpose old e. rw (register_operand settings purpose a.r a.form (length a.memory.now) a.a.0 old c.if-form-eq0.true) c.set_register.ensures),
-      (λ settings purpose old e. rw (register_operand settings purpose a.r a.form (length a.memory.now) a.a.0 old c.if-form-eq0.true)),
-    )
+    let a = c.args in record { w_after = (λ settings purpose old e. rw (register_operand settings purpose a.r a.form (length a.memory.now) a.a.0 old c.if-form-eq0.true) c.set_register.ensures); memory_after = (λ settings purpose old e. rw (register_operand settings purpose a.r a.form (length a.memory.now) a.a.0 old c.if-form-eq0.true)) }
 
 pub returns-else-form-eq0 : goal.returns-else-form-eq0
 unfolding put_register put_memory
 returns-else-form-eq0 c =
-    let a = c.args in (
-      (λ settings purpose old e. rw (memory_operand settings purpose a.r a.form (length a.memory.now) a.a.0 old c.if-form-eq0.false e)),
-      (λ settings purpose old e. rw (memory_operand settings purpose a.r a.form (length a.memory.now) a.a.0 old c.if-form-eq0.false e, ← c.word-i.ensures)),
-    )
+    let a = c.args in record { w_after = (λ settings purpose old e. rw (memory_operand settings purpose a.r a.form (length a.memory.now) a.a.0 old c.if-form-eq0.false e)); memory_after = (λ settings purpose old e. rw (memory_operand settings purpose a.r a.form (length a.memory.now) a.a.0 old c.if-form-eq0.false e, ← c.word-i.ensures)) }

@@ -11,7 +11,6 @@ use Rattle.effects.specs.Pointer.{moved_of, raised_of}
 use Rattle.fields.specs.Carried.{purpose_of}
 use borrow.Author.Rules.{rules}
 use Rattle.fields.proofs.operand.raised.Goals as goal
-use Rattle.fields.proofs.operand.raised.Goals.{After-next}
 
 reversed : (s : Settings) (stores : Bool) (r a : ℕ) → (stores && eqb r s.reversed.register) ≡ true → next_of s.reversed.words a ≡ raised_of s (purpose_of stores) r a
 unfolding raised_of
@@ -29,6 +28,6 @@ returns-then-stores-r c =
     c.next.ensures ∙ reversed a.settings a.stores a.r a.a.0 c.if-stores-r.true
 
 pub returns : goal.returns
-returns-then-stores-r (goal.at.returns c).After-next =
+returns c =
     let a = c.args in
     c.moved.ensures ∙ plain a.settings a.stores a.r a.a.0 c.if-stores-r.false

@@ -5,13 +5,12 @@ use Rattle.effects.specs.Access.{back_access}
 use Rattle.fields.proofs.Accesses.{back_free}
 use borrow.Author.Rules.{rules}
 use Rattle.fields.proofs.read.back_trap.Goals as goal
-use Rattle.fields.proofs.read.back_trap.Goals.{Then-back-lt2}
 
 pub returns-then-back-lt2 : goal.returns-then-back-lt2
 returns-then-back-lt2 c = λ settings w e. back_free settings c.args.back c.args.words w c.if-back-lt2.true
 
 pub returns : goal.returns
 unfolding back_access
-returns-then-back-lt2 (goal.at.returns c).Then-back-lt2 =
+returns c =
     let back = c.args.back in
     λ settings w e. rw (ne_eqb back 0 (λ z. omega (arith, c.if-back-lt2.false)), ne_eqb back 1 (λ z. omega (arith, c.if-back-lt2.false)), e, ← c.all.ensures) c.trap.ensures

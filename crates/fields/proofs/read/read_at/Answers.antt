@@ -13,7 +13,7 @@ use Rattle.address.proofs.Words.{word_address}
 use Rattle.effects.specs.Access.{word_at}
 use borrow.Author.Rules.{rules}
 use Rattle.fields.proofs.read.read_at.Goals as goal
-use Rattle.fields.proofs.read.read_at.Goals.{After-shared_slice_known-then-has-1, Then-has}
+use Rattle.fields.proofs.read.read_at.Goals.{Then-has}
 
 -- the word at the address
 word : (c : Then-has) → let a = c.args in let i = c.aligned_word-i.result.0 in
@@ -42,12 +42,12 @@ returns-then-has c =
     λ w change. record { trap = sym at-word.2; word = λ z. ap (λ (k : ℕ). get_or a.memory.now k 0) same }
 
 pub returns : goal.returns
-returns-then-has (goal.at.returns c).After-shared_slice_known-then-has-1 =
+returns c =
     let a = c.args in
     let number = c.aligned_word-i in
     let small : Fits w16 a.a.0 = search rules in
     let none = sym c.has.ensures ∙ c.if-has.false in
     λ w change. record {
       trap = c.trap.ensures;
-      word = λ z. never (sym none ∙ free_has a.region a.a.0 number.result.0 small.fits number.ensures.1 (sym c.trap.ensures ∙ z));
+      word = λ z. never (sym none ∙ free_has a.region a.a.0 number.result.0 small.fits number.ensures.by_index (sym c.trap.ensures ∙ z));
     }

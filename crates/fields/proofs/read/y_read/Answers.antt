@@ -8,7 +8,6 @@ use Rattle.effects.specs.declared.access.Space.TheVariants.{Y}
 use Rattle.fields.proofs.Accesses.{prefetch_reads}
 use borrow.Author.Rules.{rules}
 use Rattle.fields.proofs.read.y_read.Goals as goal
-use Rattle.fields.proofs.read.y_read.Goals.{Then-y-eq0}
 
 pub returns-then-y-eq0 : goal.returns-then-y-eq0
 unfolding prefetch_access word_at
@@ -18,7 +17,7 @@ pub read_at-requires : goal.read_at-requires
 read_at-requires c = rw c.y_part.ensures (omega arith)
 
 pub returns : goal.returns
-returns-then-y-eq0 (goal.at.returns c).Then-y-eq0 =
+returns c =
     let a = c.args in
     λ k. prefetch_reads a.settings Y a.y k 13 (length a.memory.now) a.w.now c.if-y-eq0.false a.memory.now c.read_at.result a.a.0 c.requires
     (rw (← c.y_address.ensures, ← c.y_part.ensures) c.read_at.ensures)

@@ -5,4 +5,4 @@ use Rattle.fields.proofs.words.target.Goals as goal
 
 pub returns : goal.returns
 returns c =
-    (c.word.ensures, rw c.word.ensures (encoded-target c.requires.encoded c.requires.at_bound))
+    record { value = c.word.ensures; upper_bound = rw c.word.ensures (encoded-target c.requires.encoded c.requires.at_bound) }

@@ -27,7 +27,7 @@ pub put_operation-requires : goal.put_operation-requires
 put_operation-requires c =
     let file = c.args.file.now in
     let blocks = accepted_blocks file c.requires.file_value in
-    (le_trans (place_inside Blocks (operation_count file) c.args.i c.requires.i_bound) (span_inside file blocks), c.requires.in_bounds)
+    record { at_in_bounds = le_trans (place_inside Blocks (operation_count file) c.args.i c.requires.i_bound) (span_inside file blocks); in_bounds = c.requires.in_bounds }
 
 pub returns : goal.returns
 returns c =

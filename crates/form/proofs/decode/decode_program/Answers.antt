@@ -31,7 +31,7 @@ slice_bounds-decode_operation-count c = omega arith
 pub decode_operation-requires : goal.decode_operation-requires
 decode_operation-requires c =
     let before : c.loop-i.i < operation_count c.args.file.now = omega arith in
-    (c.requires.file_value, (before, simp (length-take, length-drop) (omega arith)))
+    record { file_value = c.requires.file_value; i_bound = before; in_bounds = simp (length-take, length-drop) (omega arith) }
 
 pub loop-i-preserved : goal.loop-i-preserved
 loop-i-preserved c =

@@ -14,7 +14,7 @@ use Rattle.join.proofs.Joins.{joins}
 use Rattle.program.proofs.Places.{count_range}
 use borrow.Author.Rules.{rules}
 use Rattle.join.proofs.call.join.Goals as goal
-use Rattle.join.proofs.call.join.Goals.{Else-total-gt4032, In-Refused, In_default, In_default-check_file}
+use Rattle.join.proofs.call.join.Goals.{Else-total-gt4032, In_default, In_default-check_file}
 
 opens : (c : In_default) → file_refusal c.args.first.now ≡ 0
 opens c = sym c.check_file.ensures ∙ ap verdict_number c.in_default.is
@@ -81,10 +81,10 @@ returns-then-out-size c =
 pub write_joined-requires : goal.write_joined-requires
 write_joined-requires c =
     let all = c.operation_count-n.result in
-    (joinable (goal.at.write_joined-requires c).Else-total-gt4032, (ap (λ (k : ℕ). all + k) c.operation_count.ensures, omega (arith, c.if-out-size.false)))
+    record { joinable = joinable (goal.at.write_joined-requires c).Else-total-gt4032; total_value = ap (λ (k : ℕ). all + k) c.operation_count.ensures; total_in_bounds = omega (arith, c.if-out-size.false) }
 
 pub returns : goal.returns
-returns-in-Refused (goal.at.returns c).In-Refused =
+returns c =
     let first = c.args.first.now in
     let second = c.args.second.now in
     let n = c.operation_count-n.result in

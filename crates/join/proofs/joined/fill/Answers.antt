@@ -20,7 +20,7 @@ pub overflow_add-from : goal.overflow_add-from
 overflow_add-from c = omega arith
 
 pub bytes_of-b-requires : goal.bytes_of-b-requires
-bytes_of-b-requires c = (c.requires.joinable, omega arith)
+bytes_of-b-requires c = record { joinable = c.requires.joinable; i_bound = omega arith }
 
 eight : (c : After-bytes_of-b) → length c.bytes_of-b.result ≡ 8
 eight c =

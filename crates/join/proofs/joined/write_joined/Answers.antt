@@ -41,7 +41,7 @@ pub fill-requires : goal.fill-requires
 fill-requires c =
     let is = c.part_count-some.ensures in
     let long : length c.loop-k.part ≡ 504 = c.loop-k.invariant.4 in
-    (c.requires.joinable, (omega arith, omega arith))
+    record { joinable = c.requires.joinable; count_bound = omega arith; count_in_bounds = omega arith }
 
 pub write_block-requires : goal.write_block-requires
 write_block-requires c =

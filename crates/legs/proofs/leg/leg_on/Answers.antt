@@ -41,10 +41,4 @@ is_pair-requires c =
 pub repeat_on-requires : goal.repeat_on-requires
 repeat_on-requires c =
     let a = c.args in
-    let here = repeats a.flow.pc a.first a.count a.flow.repeat a.steps a.budget c.if-first-pc.true in (
-      c.requires.known,
-      (
-        c.requires.limits_value,
-        (here.3, (here.2, (here.0, (here.1, sym c.is_pair.ensures ∙ c.if-is_pair.true)))),
-      ),
-    )
+    let here = repeats a.flow.pc a.first a.count a.flow.repeat a.steps a.budget c.if-first-pc.true in record { known = c.requires.known; limits_value = c.requires.limits_value; steps_lt_budget = here.3; lt_repeat = here.2; first_le_pc = here.0; pc_bound = here.1; first_value = sym c.is_pair.ensures ∙ c.if-is_pair.true }

@@ -35,16 +35,7 @@ step_pair-r-requires c =
     let low = rw (sym inv.4) at pre.1.1.1.1.0 in
     let high = rw (sym inv.4) at pre.1.1.1.1.1.0 in
     let known = pre.0 in
-    let way = inv.0 known.program known.window known.stood in (
-      rw inv.4 at (encoded way known.window low high),
-      (
-        pre.1.1.1.1.1.1,
-        (
-          way.part,
-          (inv.1, (accumulators way known.window low high, (way.twos, inv.3))),
-        ),
-      ),
-    )
+    let way = inv.0 known.program known.window known.stood in record { encoded = rw inv.4 at (encoded way known.window low high); at_value = pre.1.1.1.1.1.1; xwords_in_bounds = way.part; limits_value = inv.1; accumulators = accumulators way known.window low high; twos = way.twos; lt_repeat = inv.3 }
 
 pub returns-then-not-r : goal.returns-then-not-r
 returns-then-not-r c =
@@ -56,7 +47,7 @@ returns-then-not-r c =
     let turn = c.step_pair-r in
     λ p window stood.
     let way = inv.0 p window stood in
-    let turns = turn.ensures.0 p a.starts.now a.passes.now a.lasts.now (subst (λ (n : ℕ). Follows p a.code.now (16 * (n - a.first)) c.loop-settings.f a.starts.now a.lasts.now) inv.4 (follows way window low high)) in
+    let turns = turn.ensures.turns p a.starts.now a.passes.now a.lasts.now (subst (λ (n : ℕ). Follows p a.code.now (16 * (n - a.first)) c.loop-settings.f a.starts.now a.lasts.now) inv.4 (follows way window low high)) in
     rw c.ended.ensures (goes_over way window low high (λ e. omega (arith, inv.2, e)) _ turn.result turns (not-true _ c.if-not-r.true))
 
 pub overflow_add-total : goal.overflow_add-total
@@ -73,7 +64,7 @@ returns-then-number-ne0 c =
     let turn = c.step_pair-r in
     λ p window stood.
     let way = inv.0 p window stood in
-    let turns = turn.ensures.0 p a.starts.now a.passes.now a.lasts.now (subst (λ (n : ℕ). Follows p a.code.now (16 * (n - a.first)) c.loop-settings.f a.starts.now a.lasts.now) inv.4 (follows way window low high)) in
+    let turns = turn.ensures.turns p a.starts.now a.passes.now a.lasts.now (subst (λ (n : ℕ). Follows p a.code.now (16 * (n - a.first)) c.loop-settings.f a.starts.now a.lasts.now) inv.4 (follows way window low high)) in
     rw c.ended-then-number-ne0.ensures (goes_last way window low high (λ e. omega (arith, inv.2, e)) _ turn.result turns (not-false _ c.if-not-r.false) c.if-number-ne0.true)
 
 pub returns-then-f-total : goal.returns-then-f-total
@@ -86,7 +77,7 @@ returns-then-f-total c =
     let turn = c.step_pair-r in
     λ p window stood.
     let way = inv.0 p window stood in
-    let turns = turn.ensures.0 p a.starts.now a.passes.now a.lasts.now (subst (λ (n : ℕ). Follows p a.code.now (16 * (n - a.first)) c.loop-settings.f a.starts.now a.lasts.now) inv.4 (follows way window low high)) in
+    let turns = turn.ensures.turns p a.starts.now a.passes.now a.lasts.now (subst (λ (n : ℕ). Follows p a.code.now (16 * (n - a.first)) c.loop-settings.f a.starts.now a.lasts.now) inv.4 (follows way window low high)) in
     let next = goes_next way window low high (λ e. omega (arith, inv.2, e)) _ turn.result turns (not-false _ c.if-not-r.false) c.if-number-ne0.false in
     rw c.ended-then-f-total.ensures (goes_onward next _ _ (omega (arith, way.forward)))
 
@@ -103,14 +94,14 @@ loop-settings-preserved c =
     let turn = c.step_pair-r in
     let known = pre.0 in
     let known-way = inv.0 known.program known.window known.stood in
-    let known-turns = turn.ensures.0 known.program a.starts.now a.passes.now a.lasts.now (subst (λ (n : ℕ). Follows known.program a.code.now (16 * (n - a.first)) c.loop-settings.f a.starts.now a.lasts.now) inv.4 (follows known-way known.window low high)) in
+    let known-turns = turn.ensures.turns known.program a.starts.now a.passes.now a.lasts.now (subst (λ (n : ℕ). Follows known.program a.code.now (16 * (n - a.first)) c.loop-settings.f a.starts.now a.lasts.now) inv.4 (follows known-way known.window low high)) in
     let rest = neither (ltb turn.result.flow.repeat 2) (eqb (c.loop-settings.total + 1) a.budget) c.if-f-total.false in (
       (λ p window stood.
           let way = inv.0 p window stood in
-          let turns = turn.ensures.0 p a.starts.now a.passes.now a.lasts.now (subst (λ (n : ℕ). Follows p a.code.now (16 * (n - a.first)) c.loop-settings.f a.starts.now a.lasts.now) inv.4 (follows way window low high)) in
+          let turns = turn.ensures.turns p a.starts.now a.passes.now a.lasts.now (subst (λ (n : ℕ). Follows p a.code.now (16 * (n - a.first)) c.loop-settings.f a.starts.now a.lasts.now) inv.4 (follows way window low high)) in
           goes_next way window low high (λ e. omega (arith, inv.2, e)) _ turn.result turns (not-false _ c.if-not-r.false) c.if-number-ne0.false),
-      rw (known-turns.mode turn.ensures.1.1) inv.1,
+      rw (known-turns.mode turn.ensures.ends_value) inv.1,
       omega (arith, inv.2, eqb-false (c.loop-settings.total + 1) a.budget rest.1),
       omega (arith, ltb-false turn.result.flow.repeat 2 rest.0),
-      turn.ensures.1.0 ∙ inv.4,
+      turn.ensures.pc_value ∙ inv.4,
     )

@@ -18,16 +18,16 @@ pub leg_on-r-requires : goal.leg_on-r-requires
 leg_on-r-requires c =
     let known = c.requires.known in
     let way = c.loop-settings.invariant known.program known.window known.stood in
-    (record { program = known.program; window = known.window; stood = way_stood way }, (c.of-limits.ensures, way.along.within))
+    record { known = record { program = known.program; window = known.window; stood = way_stood way }; limits_value = c.of-limits.ensures; steps_le_budget = way.along.within }
 
 pub returns-then-not-is_onward : goal.returns-then-not-is_onward
 returns-then-not-is_onward c =
-    let leg = c.leg_on-r in (
-      (λ p window stood.
+    let leg = c.leg_on-r in record {
+      goes = (λ p window stood.
           let way = c.loop-settings.invariant p window stood in
-          rw c.ended.ensures (goes_along way (leg.ensures p window (way_stood way)))),
-      rw c.ended.ensures (sym c.is_onward.ensures ∙ not-true _ c.if-not-is_onward.true),
-    )
+          rw c.ended.ensures (goes_along way (leg.ensures p window (way_stood way))));
+      pause_value = rw c.ended.ensures (sym c.is_onward.ensures ∙ not-true _ c.if-not-is_onward.true);
+    }
 
 pub loop-settings-smaller : goal.loop-settings-smaller
 loop-settings-smaller c =

@@ -53,7 +53,7 @@ step-r-requires c =
     let words = encoded way known.window here.0 here.1 in
     let sums = accumulators way known.window here.0 here.1 in
     let flow = standing way known.window here.0 here.1 in
-    (words, (rw way.along.fit.long way.part, (c.loop-settings.invariant.1, (sums, (way.twos, flow)))))
+    record { encoded = words; xwords_in_bounds = rw way.along.fit.long way.part; limits_value = c.loop-settings.invariant.1; accumulators = sums; twos = way.twos; standing = flow }
 
 pub returns-then-not-r : goal.returns-then-not-r
 returns-then-not-r c =

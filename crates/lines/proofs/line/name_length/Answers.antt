@@ -6,7 +6,6 @@ use borrow.Author.Rules.{rules}
 use lib.ListN.{length}
 use Rattle.lines.proofs.Names.{NameSoFar, name_more, name_stop, name_end}
 use Rattle.lines.proofs.line.name_length.Goals as goal
-use Rattle.lines.proofs.line.name_length.Goals.{Then-name-n-eq0}
 
 pub loop-n-init : goal.loop-n-init
 loop-n-init c = (omega arith, refl)
@@ -16,7 +15,7 @@ returns-then-name-n-eq0 c =
     let loop = c.loop-n in
     let name = c.args.t1 in
     let size : length name ≡ 9 = search rules in
-    (name_stop name loop.n (omega arith) c.if-name-n-eq0.true loop.invariant.1, omega arith)
+    record { name_value = name_stop name loop.n (omega arith) c.if-name-n-eq0.true loop.invariant.1; upper_bound = omega arith }
 
 pub loop-n-preserved : goal.loop-n-preserved
 loop-n-preserved c =
@@ -26,8 +25,8 @@ loop-n-preserved c =
     (omega arith, name_more name loop.n (omega arith) c.if-name-n-eq0.false loop.invariant.1)
 
 pub returns : goal.returns
-returns-then-name-n-eq0 (goal.at.returns c).Then-name-n-eq0 =
+returns c =
     let loop = c.loop-n in
     let name = c.args.t1 in
     let size : length name ≡ 9 = search rules in
-    (name_end name loop.n (omega arith) loop.invariant.1, omega arith)
+    record { name_value = name_end name loop.n (omega arith) loop.invariant.1; upper_bound = omega arith }

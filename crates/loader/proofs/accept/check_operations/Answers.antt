@@ -33,7 +33,7 @@ loop-i-init c = (omega arith, refl, refl)
 
 pub decode_in-requires : goal.decode_in-requires
 decode_in-requires c =
-    (omega arith, le_trans (place_inside c.args.layout c.args.n c.loop-i.i (omega arith)) c.requires.n_in_bounds)
+    record { i_bound = omega arith; i_in_bounds = le_trans (place_inside c.args.layout c.args.n c.loop-i.i (omega arith)) c.requires.n_in_bounds }
 
 pub returns-in_default : goal.returns-in_default
 unfolding operations_refusal
@@ -45,7 +45,7 @@ returns-in_default c =
 
 pub is_placed_as-placed-requires : goal.is_placed_as-placed-requires
 is_placed_as-placed-requires c =
-    (omega arith, (c.requires.n_in_bounds, omega arith))
+    record { n_bound = omega arith; n_in_bounds = c.requires.n_in_bounds; i_lt_n = omega arith }
 
 pub loop-i-preserved : goal.loop-i-preserved
 loop-i-preserved c =

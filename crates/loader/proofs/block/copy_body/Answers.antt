@@ -8,4 +8,4 @@ use Rattle.loader.proofs.block.copy_body.Goals as goal
 pub returns : goal.returns
 returns c =
     let block = c.args.block.now in
-    (rw (body_length block (omega arith) (omega arith), c.wide-n.ensures.value), rw (c.copy.ensures, part_of, c.wide-n.ensures.value))
+    record { value = rw (body_length block (omega arith) (omega arith), c.wide-n.ensures.value); to_after = rw (c.copy.ensures, part_of, c.wide-n.ensures.value) }

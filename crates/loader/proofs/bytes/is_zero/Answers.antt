@@ -7,7 +7,6 @@ use lib.ListN.{length, drop}
 use Rattle.program.specs.Bytes.{is_zero}
 use Rattle.program.proofs.Slices.{zero_next, zero_end}
 use Rattle.loader.proofs.bytes.is_zero.Goals as goal
-use Rattle.loader.proofs.bytes.is_zero.Goals.{Then-s-i-ne0}
 
 pub loop-i-init : goal.loop-i-init
 loop-i-init c = (omega arith, refl)
@@ -25,5 +24,5 @@ loop-i-preserved c =
     (omega arith, sym (zero_next s i (omega arith) ∙ simp (eq-eqb _ _ c.if-s-i-ne0.false)) ∙ c.loop-i.invariant.1)
 
 pub returns : goal.returns
-returns-then-s-i-ne0 (goal.at.returns c).Then-s-i-ne0 =
+returns c =
     sym (zero_end c.args.s.now c.loop-i.i (omega arith)) ∙ c.loop-i.invariant.1

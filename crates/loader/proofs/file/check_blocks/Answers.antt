@@ -11,7 +11,6 @@ use Rattle.program.specs.File.{is_file_size, refusal_at, blocks_refusal}
 use Rattle.program.proofs.Slices.{part_of}
 use Rattle.program.proofs.Answers.{first_more, first_stop, first_end}
 use Rattle.loader.proofs.file.check_blocks.Goals as goal
-use Rattle.loader.proofs.file.check_blocks.Goals.{Then-not-is_file_size}
 
 pub returns-then-not-is_file_size : goal.returns-then-not-is_file_size
 unfolding blocks_refusal
@@ -40,6 +39,6 @@ loop-k-preserved c =
 
 pub returns : goal.returns
 unfolding blocks_refusal
-returns-then-not-is_file_size (goal.at.returns c).Then-not-is_file_size =
+returns c =
     let file = c.args.file.now in
     rw (c.loop-k.invariant.1, first_end (refusal_at file) c.loop-k.k (length file / 512) (omega arith) c.loop-k.invariant.3)

@@ -6,7 +6,6 @@ use Rattle.program.proofs.Answers.{then_stop, then_go}
 use Rattle.program.proofs.Places.{count_range, span_inside}
 use borrow.Author.Rules.{rules}
 use Rattle.loader.proofs.file.check_file.Goals as goal
-use Rattle.loader.proofs.file.check_file.Goals.{In_default}
 
 pub returns-in_default : goal.returns-in_default
 unfolding file_refusal
@@ -25,5 +24,5 @@ check_operations-requires c =
 
 pub returns : goal.returns
 unfolding file_refusal
-returns-in_default (goal.at.returns c).In_default =
+returns c =
     rw (then_go c.check_blocks-blocks.result _ _ c.in-Accepted.is c.check_blocks-blocks.ensures, c.check_operations.ensures, c.operation_count-n.ensures)

@@ -10,7 +10,7 @@ use Rattle.program.proofs.Places.{count_range, bodies_length}
 use borrow.Author.Rules.{rules}
 use native.Mathlib.Omega.{arith}
 use Rattle.loader.proofs.file.load.Goals as goal
-use Rattle.loader.proofs.file.load.Goals.{In-Refused, In_default}
+use Rattle.loader.proofs.file.load.Goals.{In_default}
 
 right : (c : In_default) → file_refusal c.args.file.now ≡ 0
 right c = sym c.check_file.ensures ∙ ap verdict_number c.in_default.is
@@ -40,10 +40,10 @@ pub copy_bodies-requires : goal.copy_bodies-requires
 copy_bodies-requires c =
     let file = c.args.file.now in
     let blocks = accepted_blocks file (right (goal.at.copy_bodies-requires c).In_default) in
-    (blocks, rw (bodies_length file blocks, ← c.operation_count-size.ensures) c.if-operations-size.false)
+    record { file_value = blocks; file_in_bounds = rw (bodies_length file blocks, ← c.operation_count-size.ensures) c.if-operations-size.false }
 
 pub returns : goal.returns
-returns-in-Refused (goal.at.returns c).In-Refused =
+returns c =
     let file = c.args.file.now in
     filled_done _ _ _ _ _ (load_fits file (right (goal.at.returns c).In_default) (length c.args.operations.now) (rw (← c.operation_count-size.ensures) c.if-operations-size.false))
     (rw (bodies_length file (accepted_blocks file (right (goal.at.returns c).In_default)), c.operation_count-size.ensures))

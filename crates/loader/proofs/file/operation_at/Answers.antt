@@ -12,7 +12,7 @@ pub operation_in-requires : goal.operation_in-requires
 operation_in-requires c =
     let file = c.args.file.now in
     let blocks = accepted_blocks file c.requires.file_value in
-    (omega (arith, c.requires.i_bound, (count_range file blocks).1), le_trans (place_inside Blocks (operation_count file) c.args.i c.requires.i_bound) (span_inside file blocks))
+    record { i_bound = omega (arith, c.requires.i_bound, (count_range file blocks).1); i_in_bounds = le_trans (place_inside Blocks (operation_count file) c.args.i c.requires.i_bound) (span_inside file blocks) }
 
 pub returns : goal.returns
 returns c =

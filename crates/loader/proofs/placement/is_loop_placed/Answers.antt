@@ -3,7 +3,6 @@ use borrow.Author.Tests.{le-leb, lt-leb, lt-ltb, le-ltb}
 use Rattle.program.proofs.Places.{operations_length}
 use borrow.Author.Rules.{rules}
 use Rattle.loader.proofs.placement.is_loop_placed.Goals as goal
-use Rattle.loader.proofs.placement.is_loop_placed.Goals.{Then-e-d}
 
 pub returns-then-e-d : goal.returns-then-e-d
 returns-then-e-d c = rw (lt-leb _ _ c.if-e-d.true)
@@ -16,7 +15,7 @@ returns-then-is_repeat c =
     rw (le-leb _ _ c.if-e-d.false, operations_length, lt-ltb _ _ c.if-n-e.false, ← c.role_at.ensures, ← c.is_repeat.ensures, c.if-is_repeat.true)
 
 pub returns : goal.returns
-returns-then-e-d (goal.at.returns c).Then-e-d =
+returns c =
     rw (
       le-leb _ _ c.if-e-d.false,
       operations_length,

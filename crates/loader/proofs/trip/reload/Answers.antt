@@ -13,7 +13,7 @@ use Rattle.program.proofs.Trips.{reloaded}
 use borrow.Author.Rules.{rules}
 use native.Mathlib.Omega.{arith}
 use Rattle.loader.proofs.trip.reload.Goals as goal
-use Rattle.loader.proofs.trip.reload.Goals.{In-Refused, In-Written-2}
+use Rattle.loader.proofs.trip.reload.Goals.{In-Written-2}
 
 -- what a write that is answered by its size gives
 written : (c : In-Written-2) →
@@ -44,7 +44,7 @@ pub returns-in_default-written : goal.returns-in_default-written
 returns-in_default-written c = filled_stopped _ _ _ _ _ _ _ c.write-written.result c.in_default-written.is c.write-written.ensures
 
 pub returns : goal.returns
-returns-in-Refused (goal.at.returns c).In-Refused =
+returns c =
     let args = c.args in
     let operations = args.operations.now in
     let again = args.again.now in

@@ -14,7 +14,7 @@ use Rattle.program.proofs.Trips.{rewritten}
 use borrow.Author.Rules.{rules}
 use native.Mathlib.Omega.{arith}
 use Rattle.loader.proofs.trip.rewrite.Goals as goal
-use Rattle.loader.proofs.trip.rewrite.Goals.{In-Refused, In-Written-2}
+use Rattle.loader.proofs.trip.rewrite.Goals.{In-Written-2}
 
 -- what a load that is answered by its size gives
 written : (c : In-Written-2) →
@@ -45,7 +45,7 @@ pub returns-in_default-loaded : goal.returns-in_default-loaded
 returns-in_default-loaded c = filled_stopped _ _ _ _ _ _ _ c.load-loaded.result c.in_default-loaded.is c.load-loaded.ensures
 
 pub returns : goal.returns
-returns-in-Refused (goal.at.returns c).In-Refused =
+returns c =
     let args = c.args in
     let file = args.file.now in
     let out = args.out.now in

@@ -15,7 +15,7 @@ size_of c = sym c.is_operations_size.ensures ∙ c.if-is_operations_size.true
 pub check_operations-requires : goal.check_operations-requires
 check_operations-requires c =
     let operations = c.args.operations.now in
-    (count_fits (length operations) (size_of (goal.at.check_operations-requires c).Then-is_operations_size), omega arith)
+    record { n_bound = count_fits (length operations) (size_of (goal.at.check_operations-requires c).Then-is_operations_size); n_in_bounds = omega arith }
 
 pub returns-then-is_operations_size : goal.returns-then-is_operations_size
 unfolding program_refusal

@@ -9,7 +9,7 @@ use Rattle.program.proofs.Answers.{then_refused, filled_refused, filled_done}
 use Rattle.program.proofs.Files.{file_length}
 use borrow.Author.Rules.{rules}
 use Rattle.loader.proofs.write.write.Goals as goal
-use Rattle.loader.proofs.write.write.Goals.{In-Refused, In_default}
+use Rattle.loader.proofs.write.write.Goals.{In_default}
 
 right : (c : In_default) → program_refusal c.args.operations.now ≡ 0
 right c = sym c.check_program.ensures ∙ ap verdict_number c.in_default.is
@@ -31,10 +31,10 @@ returns-then-out-size c =
 
 pub write_blocks-requires : goal.write_blocks-requires
 write_blocks-requires c =
-    (program_fits c.args.operations.now (right (goal.at.write_blocks-requires c).In_default), rw (← c.file_size_lem.ensures) c.if-out-size.false)
+    record { operations_len_bound = program_fits c.args.operations.now (right (goal.at.write_blocks-requires c).In_default); operations_in_bounds = rw (← c.file_size_lem.ensures) c.if-out-size.false }
 
 pub returns : goal.returns
-returns-in-Refused (goal.at.returns c).In-Refused =
+returns c =
     let operations = c.args.operations.now in
     filled_done _ _ _ _ _ (write_fits operations (right (goal.at.returns c).In_default) (length c.args.out.now) (rw (← c.file_size_lem.ensures) c.if-out-size.false))
     (rw (file_length operations) c.file_size_lem.ensures)

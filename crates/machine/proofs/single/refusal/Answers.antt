@@ -7,7 +7,6 @@ use Rattle.machine.specs.Single.{call_refusal}
 use Rattle.program.specs.Answer.{verdict_number}
 use borrow.Author.Rules.{rules}
 use Rattle.machine.proofs.single.refusal.Goals as goal
-use Rattle.machine.proofs.single.refusal.Goals.{After-number}
 
 pub returns-in-Refused : goal.returns-in-Refused
 unfolding call_refusal
@@ -23,5 +22,5 @@ refusal-requires c = sym c.check_file.ensures ∙ ap verdict_number c.in_default
 
 pub returns : goal.returns
 unfolding call_refusal
-returns-in-Refused (goal.at.returns c).After-number =
+returns c =
     rw (then_go _ _ _ c.in_default.is c.check_file.ensures) (rw (← c.refusal-six.ensures, c.if-six-ne0.false) c.refusal.ensures)

@@ -14,7 +14,7 @@ use Rattle.fields.proofs.Accumulators.{within}
 use Rattle.moves.proofs.Arithmetics.{sums, subtracts, negates, shifts, last_kind}
 use borrow.Author.Rules.{rules}
 use Rattle.moves.proofs.arithmetic.arithmetic.Goals as goal
-use Rattle.moves.proofs.arithmetic.arithmetic.Goals.{After-difference-arg-1, After-result, After-target-t, After-v-1, Else-which-eq10}
+use Rattle.moves.proofs.arithmetic.arithmetic.Goals.{After-difference-arg-1, After-target-t, After-v-1, Else-which-eq10}
 
 -- the target's number and the accumulators that it names
 small : (c : After-target-t) → let a = c.args in field a.code.now a.at 1 < 2
@@ -57,7 +57,7 @@ pub difference-requires : goal.difference-requires
 difference-requires c =
     let t = c.target-t in
     let l : 1 - t.result < 2 = omega arith in
-    (value-within (goal.at.difference-requires c).After-v-1, rw (other (goal.at.difference-requires c).After-difference-arg-1) (within c.args.acc.now (1 - t.result) l c.requires.accumulators))
+    record { x_value = value-within (goal.at.difference-requires c).After-v-1; y_value = rw (other (goal.at.difference-requires c).After-difference-arg-1) (within c.args.acc.now (1 - t.result) l c.requires.accumulators) }
 
 pub returns-then-which-eq9 : goal.returns-then-which-eq9
 returns-then-which-eq9 c =
@@ -83,7 +83,7 @@ pub register-requires : goal.register-requires
 register-requires c = rw c.word.ensures (shift_register c.requires.encoded (is-shift (goal.at.register-requires c).Else-which-eq10))
 
 pub returns : goal.returns
-returns-then-which-eq8 (goal.at.returns c).After-result =
+returns c =
     let a = c.args in
     let t = c.target-t.ensures.value in
     λ settings mode memory.

@@ -9,7 +9,7 @@ use Rattle.integers.proofs.Fitting.{gave}
 use Rattle.accumulator.specs.Shift.{shift_allowed}
 use borrow.Author.Rules.{rules}
 use Rattle.moves.proofs.arithmetic.shift_by.Goals as goal
-use Rattle.moves.proofs.arithmetic.shift_by.Goals.{After-is_allowed, After-signed-n, After-trapped}
+use Rattle.moves.proofs.arithmetic.shift_by.Goals.{After-is_allowed, After-signed-n}
 
 by : (c : After-signed-n) → to_z w64 (of_z w64 c.signed-n.result) ≡ signed_of 16 c.args.x
 by c = gave c.signed-n.ensures c.signed-n.type_inv
@@ -22,10 +22,10 @@ returns-then-not-is_allowed c = rw (allowed (goal.at.returns-then-not-is_allowed
 
 pub shift-requires : goal.shift-requires
 shift-requires c =
-    (rw (to_z-of_z c.ranges.v) c.requires, sym c.is_allowed.ensures ∙ not-false c.is_allowed.result c.if-not-is_allowed.false)
+    record { v_value = rw (to_z-of_z c.ranges.v) c.requires; n_value = sym c.is_allowed.ensures ∙ not-false c.is_allowed.result c.if-not-is_allowed.false }
 
 pub returns : goal.returns
-returns-then-not-is_allowed (goal.at.returns c).After-trapped =
+returns c =
     let r : to_z w64 (of_z w64 c.shift.result) ≡ c.shift.result = search rules in
     rw (allowed (goal.at.returns c).After-is_allowed ∙ not-false c.is_allowed.result c.if-not-is_allowed.false)
     (rw (r, c.shift.ensures, by (goal.at.returns c).After-signed-n, to_z-of_z c.ranges.v) at c.result.ensures)

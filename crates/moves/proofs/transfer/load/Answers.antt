@@ -7,7 +7,7 @@ use Rattle.fields.proofs.Operands.{operand_free}
 use Rattle.moves.specs.Transfer.{access_in}
 use borrow.Author.Rules.{rules}
 use Rattle.moves.proofs.transfer.load.Goals as goal
-use Rattle.moves.proofs.transfer.load.Goals.{After-operand_trap-blocked, Then-blocked-ne0}
+use Rattle.moves.proofs.transfer.load.Goals.{After-operand_trap-blocked}
 
 trap : (c : After-operand_trap-blocked) → let a = c.args in
     c.operand_trap-blocked.result ≡ (access_in a.settings Reading a.code.now a.at a.w.now (length a.memory.now)).trap
@@ -36,7 +36,7 @@ operand_word-x-requires c =
     operand_free a.settings Reading r form (length a.memory.now) register.result w held free
 
 pub returns : goal.returns
-returns-then-blocked-ne0 (goal.at.returns c).Then-blocked-ne0 =
+returns c =
     let a = c.args in
     let w = a.w.now in
     let word = c.word-r in

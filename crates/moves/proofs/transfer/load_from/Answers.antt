@@ -17,13 +17,13 @@ use Rattle.fields.proofs.Accumulators.{within}
 use Rattle.moves.proofs.Transfers.{by_three, load_transfers, load_fields, load_blocks, lac_leaves, add_leaves, load_leaves}
 use borrow.Author.Rules.{rules}
 use Rattle.moves.proofs.transfer.load_from.Goals as goal
-use Rattle.moves.proofs.transfer.load_from.Goals.{After-load-read, After-loaded_value-value, After-result-arg-1, After-trapped, After-word-2}
+use Rattle.moves.proofs.transfer.load_from.Goals.{After-load-read, After-loaded_value-value, After-result-arg-1, After-word-2}
 
 pub load-read-requires : goal.load-read-requires
 load-read-requires c =
     let pre = c.requires in
     let fields = load_fields pre.0 pre.1.0 in
-    (pre.0, (fields.pointer, fields.form))
+    record { encoded = pre.0; at_bound = fields.pointer; at_bound_2 = fields.form }
 
 pub returns-then-trap-ne0 : goal.returns-then-trap-ne0
 returns-then-trap-ne0 c =
@@ -77,18 +77,18 @@ returns-then-which-eq12 c =
 pub target-t-requires : goal.target-t-requires
 target-t-requires c =
     let kinds = load_transfers _ c.requires.at_value (λ z. c.if-which-eq17.false (c.kind-which.ensures ∙ z)) in
-    (c.requires.encoded, kinds.1)
+    record { encoded = c.requires.encoded; at_bound = kinds.1 }
 
 pub overflow_add-acc : goal.overflow_add-acc
 overflow_add-acc c =
     let acc = c.args.acc.now in
     let t = c.target-t in
     let v : to_z w64 (of_z w64 (get_or acc t.result (pos 0))) ≡ get_or acc t.result (pos 0) = search rules in
-    let within-target = within acc t.result t.ensures.1 c.requires.accumulators in
+    let within-target = within acc t.result t.ensures.upper_bound c.requires.accumulators in
     rw (v, value (goal.at.overflow_add-acc c).After-loaded_value-value) (load_fits _ _ within-target (loaded_within _ _ (word_small (goal.at.overflow_add-acc c).After-load-read) (shift_small (goal.at.overflow_add-acc c).After-word-2)))
 
 pub returns : goal.returns
-returns-then-trap-ne0 (goal.at.returns c).After-trapped =
+returns c =
     let a = c.args in
     let acc = a.acc.now in
     let t = c.target-t in
@@ -103,7 +103,7 @@ returns-then-trap-ne0 (goal.at.returns c).After-trapped =
     (by_three _ 12 13 17 c.requires.at_value (λ z. absurd (c.if-which-eq12.false (k ∙ z))) (λ z. z)
     (λ z. absurd (c.if-which-eq17.false (k ∙ z))))
     registers
-    (rw (to_z-of_z (overflow_add-acc (goal.at.returns c).After-result-arg-1), v, value (goal.at.returns c).After-loaded_value-value, t.ensures.0, shift, load.ensures.reads.word free) at c.result-2.ensures)
+    (rw (to_z-of_z (overflow_add-acc (goal.at.returns c).After-result-arg-1), v, value (goal.at.returns c).After-loaded_value-value, t.ensures.value, shift, load.ensures.reads.word free) at c.result-2.ensures)
 
 pub loaded_value-value-requires : goal.loaded_value-value-requires
 loaded_value-value-requires c = shift_small (goal.at.loaded_value-value-requires c).After-word-2

@@ -27,7 +27,7 @@ overflow_mul-signed c = rw (value (goal.at.overflow_mul-signed c).After-signed) 
 
 pub shift-requires : goal.shift-requires
 shift-requires c =
-    (rw (to_z-of_z (overflow_mul-signed (goal.at.shift-requires c).After-signed), value (goal.at.shift-requires c).After-signed) (word_accumulator _ (word (goal.at.shift-requires c).After-signed)), rw (by (goal.at.shift-requires c).After-shift_of) (byte_allowed _ c.requires))
+    record { v_value = rw (to_z-of_z (overflow_mul-signed (goal.at.shift-requires c).After-signed), value (goal.at.shift-requires c).After-signed) (word_accumulator _ (word (goal.at.shift-requires c).After-signed)); n_value = rw (by (goal.at.shift-requires c).After-shift_of) (byte_allowed _ c.requires) }
 
 pub returns : goal.returns
 unfolding loaded_value

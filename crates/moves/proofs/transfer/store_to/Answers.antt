@@ -7,7 +7,7 @@ use Rattle.moves.specs.Transfer.{access_in}
 use Rattle.moves.proofs.Transfers.{store_fields, store_blocks, store_leaves}
 use borrow.Author.Rules.{rules}
 use Rattle.moves.proofs.transfer.store_to.Goals as goal
-use Rattle.moves.proofs.transfer.store_to.Goals.{After-operand_trap-trap, After-trapped}
+use Rattle.moves.proofs.transfer.store_to.Goals.{After-operand_trap-trap}
 
 trap : (c : After-operand_trap-trap) → let a = c.args in
     c.operand_trap-trap.result ≡ (access_in a.settings Storing a.code.now a.at a.w.now (length a.memory.now)).trap
@@ -33,7 +33,7 @@ pub step_operand-requires : goal.step_operand-requires
 step_operand-requires c =
     let pre = c.requires in
     let fields = store_fields pre.0 pre.1.0 in
-    (rw c.word-r.ensures fields.pointer, rw c.word-form.ensures fields.form)
+    record { r_bound = rw c.word-r.ensures fields.pointer; form_bound = rw c.word-form.ensures fields.form }
 
 pub put_operand-requires : goal.put_operand-requires
 put_operand-requires c =
@@ -46,10 +46,10 @@ put_operand-requires c =
     let pointer = (store_fields c.requires.encoded c.requires.at_value).pointer in
     let free = sym (c.operand_trap-trap.ensures a.settings Storing word.result w held) ∙ c.if-trap-ne0.false in
     let word_free = operand_free a.settings Storing word.result form (length a.memory.now) register.result w held free in
-    (rw word.ensures pointer, word_free)
+    record { r_bound = rw word.ensures pointer; a_value = word_free }
 
 pub returns : goal.returns
-returns-then-trap-ne0 (goal.at.returns c).After-trapped =
+returns c =
     let a = c.args in
     let w = a.w.now in
     let memory = a.memory.now in
@@ -59,7 +59,7 @@ returns-then-trap-ne0 (goal.at.returns c).After-trapped =
     let x = c.word_of-x.ensures in
     let held = sym c.register.ensures in
     let moved = rw (r, form) at (c.step_operand.ensures w (length memory) held) in
-    let registers = rw (r, form, moved, x) at (put.ensures.0 a.settings Storing w held) in
-    let words = rw (r, form, x) at (put.ensures.1 a.settings Storing w held) in
+    let registers = rw (r, form, moved, x) at (put.ensures.w_after a.settings Storing w held) in
+    let words = rw (r, form, x) at (put.ensures.memory_after a.settings Storing w held) in
     store_leaves c.requires.encoded a.settings a.mode a.acc.now w memory c.no_result.result _ _ c.operand_trap-trap.result
     c.requires.at_value (trap (goal.at.returns c).After-operand_trap-trap) c.if-trap-ne0.false registers words c.no_result.ensures

@@ -16,7 +16,7 @@ by c = gave c.Shift-of.ensures c.Shift-of.type_inv
 
 pub shift-requires : goal.shift-requires
 shift-requires c =
-    (rw (to_z-of_z c.ranges.v) c.requires.v_value, rw (by (goal.at.shift-requires c).After-shift_of) (byte_allowed _ c.requires.b2_bound))
+    record { v_value = rw (to_z-of_z c.ranges.v) c.requires.v_value; n_value = rw (by (goal.at.shift-requires c).After-shift_of) (byte_allowed _ c.requires.b2_bound) }
 
 pub returns : goal.returns
 unfolding value_word

@@ -19,7 +19,7 @@ returns-then-which-eq16 c =
 
 pub load_from-requires : goal.load_from-requires
 load_from-requires c =
-    (c.requires.encoded, (rw c.kind-which.ensures at c.if-which.true, c.requires.accumulators))
+    record { encoded = c.requires.encoded; at_value = rw c.kind-which.ensures at c.if-which.true; accumulators = c.requires.accumulators }
 
 pub returns-then-which : goal.returns-then-which
 returns-then-which c = c.load_from.ensures c.args.mode
@@ -29,4 +29,4 @@ store_to-requires c =
     let k = c.kind-which.ensures in
     let loads = rw k at c.if-which.false in
     let stores = else_stores _ c.requires.bound c.requires.at_bound (λ z. c.if-which-eq16.false (k ∙ z)) loads in
-    (c.requires.encoded, (stores, c.requires.accumulators))
+    record { encoded = c.requires.encoded; at_value = stores; accumulators = c.requires.accumulators }

@@ -13,7 +13,6 @@ use Rattle.fields.proofs.Accumulators.{within}
 use Rattle.moves.proofs.Transfers.{store_transfers}
 use borrow.Author.Rules.{rules}
 use Rattle.moves.proofs.transfer.word_of.Goals as goal
-use Rattle.moves.proofs.transfer.word_of.Goals.{After-register}
 
 pub register-requires : goal.register-requires
 register-requires c =
@@ -29,7 +28,7 @@ returns-then-which-eq18 c =
 
 pub target-t-requires : goal.target-t-requires
 target-t-requires c =
-    (c.requires.encoded, (store_transfers _ c.requires.at_value (λ z. c.if-which-eq18.false (c.kind-which.ensures ∙ z))).1)
+    record { encoded = c.requires.encoded; at_bound = (store_transfers _ c.requires.at_value (λ z. c.if-which-eq18.false (c.kind-which.ensures ∙ z))).1 }
 
 pub stored_word-requires : goal.stored_word-requires
 stored_word-requires c =
@@ -37,13 +36,13 @@ stored_word-requires c =
     let t = c.target-t in
     let v : to_z w64 (of_z w64 (get_or acc t.result (pos 0))) ≡ get_or acc t.result (pos 0) = search rules in
     let kinds = store_transfers _ c.requires.at_value (λ z. c.if-which-eq18.false (c.kind-which.ensures ∙ z)) in
-    (rw v (within acc t.result t.ensures.1 c.requires.accumulators), rw c.word-2.ensures (transfer_shift c.requires.encoded kinds.0 kinds.1))
+    record { v_value = rw v (within acc t.result t.ensures.upper_bound c.requires.accumulators); b2_bound = rw c.word-2.ensures (transfer_shift c.requires.encoded kinds.0 kinds.1) }
 
 pub returns : goal.returns
-returns-then-which-eq18 (goal.at.returns c).After-register =
+returns c =
     let acc = c.args.acc.now in
     let t = c.target-t in
     let v : to_z w64 (of_z w64 (get_or acc t.result (pos 0))) ≡ get_or acc t.result (pos 0) = search rules in
     let kind = c.kind-which in
-    rw (← kind.ensures, ne_eqb kind.result 18 c.if-which-eq18.false, ← t.ensures.0, ← c.word-2.ensures)
+    rw (← kind.ensures, ne_eqb kind.result 18 c.if-which-eq18.false, ← t.ensures.value, ← c.word-2.ensures)
     (rw v at c.stored_word.ensures)

@@ -12,19 +12,19 @@ pub write_back-requires : goal.write_back-requires
 write_back-requires c =
     let a = c.args in
     let code = a.code.now in
-    let f = c.requires.fetches in (
-      c.target-t.ensures.upper_bound,
-      λ l. free_back a.settings (mac_in code a.at) (field code a.at 10) a.f.ba.0 (length a.memory.now) a.w.now refl f.ba
-          (rw c.word-back.ensures at l) (sym f.trap ∙ c.requires.trap_value),
-    )
+    let f = c.requires.fetches in record {
+      t_bound = c.target-t.ensures.upper_bound;
+      a_value = λ l. free_back a.settings (mac_in code a.at) (field code a.at 10) a.f.ba.0 (length a.memory.now) a.w.now refl f.ba
+          (rw c.word-back.ensures at l) (sym f.trap ∙ c.requires.trap_value);
+    }
 
 pub mac_result-requires : goal.mac_result-requires
 mac_result-requires c =
     let acc = c.args.acc.now in
     let t = c.target-t in
     let p = c.mac_product-p in
-    let v = within acc t.result t.ensures.1 c.requires.accumulators in
-    (rw (accumulator_kept _ v) v, rw (product_kept _ p.ensures.1) p.ensures.1)
+    let v = within acc t.result t.ensures.upper_bound c.requires.accumulators in
+    record { v_value = rw (accumulator_kept _ v) v; p_bound = rw (product_kept _ p.ensures.result_bound) p.ensures.result_bound }
 
 pub returns : goal.returns
 unfolding mac_accesses
@@ -37,9 +37,9 @@ returns c =
     let free = c.requires.trap_value in
     let t = c.target-t in
     let p = c.mac_product-p in
-    let v = accumulator_kept _ (within acc t.result t.ensures.1 c.requires.accumulators) in
-    let written = rw (t.ensures.0, c.word-back.ensures) at c.write_back.ensures in
-    let exact = rw (v, t.ensures.0, product_kept _ p.ensures.1, c.kind.ensures) at c.mac_result.ensures.else_value in
+    let v = accumulator_kept _ (within acc t.result t.ensures.upper_bound c.requires.accumulators) in
+    let written = rw (t.ensures.value, c.word-back.ensures) at c.write_back.ensures in
+    let exact = rw (v, t.ensures.value, product_kept _ p.ensures.result_bound, c.kind.ensures) at c.mac_result.ensures.else_value in
     mac_carries a.settings a.mode acc w memory a.f c.requires.encoded c.requires.at_bound f free
-    c.mac_result.result p.result p.ensures.0 (c.mac_registers.ensures memory free f)
+    c.mac_result.result p.result p.ensures.value (c.mac_registers.ensures memory free f)
     (written.0 a.settings w f.ba) (written.1 a.settings w f.ba) c.mac_result.ensures.trap_value exact

@@ -3,7 +3,6 @@ use Rattle.std.proofs.Common.{refl, arith, rules}
 use Rattle.form.proofs.Fields.{mac_fields}
 use Rattle.products.proofs.Pairs.{pair_fields, x_trapped, both_fetched}
 use Rattle.products.proofs.mac.fetch_pair.Goals as goal
-use Rattle.products.proofs.mac.fetch_pair.Goals.{Then-blocked-ne0}
 
 pub register-requires : goal.register-requires
 register-requires c =
@@ -30,7 +29,7 @@ returns-then-blocked-ne0 c =
     c.read_at-xread.result first c.if-blocked-ne0.true refl
 
 pub returns : goal.returns
-returns-then-blocked-ne0 (goal.at.returns c).Then-blocked-ne0 =
+returns c =
     let a = c.args in
     let xa = rw c.word.ensures at c.register.ensures in
     let ya = rw c.word-2.ensures at c.register-2.ensures in

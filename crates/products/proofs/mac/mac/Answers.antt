@@ -16,4 +16,4 @@ returns-then-trap-ne0 c =
 
 pub carry_out-requires : goal.carry_out-requires
 carry_out-requires c =
-    (c.requires.encoded, (c.requires.at_bound, (c.requires.accumulators, (c.fetch-f.ensures, c.if-trap-ne0.false))))
+    record { encoded = c.requires.encoded; at_bound = c.requires.at_bound; accumulators = c.requires.accumulators; fetches = c.fetch-f.ensures; trap_value = c.if-trap-ne0.false }

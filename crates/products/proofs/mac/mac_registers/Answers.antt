@@ -7,11 +7,11 @@ use Rattle.products.proofs.mac.mac_registers.Goals as goal
 
 pub step_x-requires : goal.step_x-requires
 step_x-requires c =
-    (rw c.word.ensures (mac_fields c.requires.encoded c.requires.at_bound).x, rw c.word-2.ensures (x_step c.requires.encoded c.requires.at_bound))
+    record { x_bound = rw c.word.ensures (mac_fields c.requires.encoded c.requires.at_bound).x; c_bound = rw c.word-2.ensures (x_step c.requires.encoded c.requires.at_bound) }
 
 pub step_y-requires : goal.step_y-requires
 step_y-requires c =
-    (rw c.word-3.ensures (mac_fields c.requires.encoded c.requires.at_bound).y, rw c.word-4.ensures (y_step c.requires.encoded c.requires.at_bound))
+    record { y_bound = rw c.word-3.ensures (mac_fields c.requires.encoded c.requires.at_bound).y; c_bound = rw c.word-4.ensures (y_step c.requires.encoded c.requires.at_bound) }
 
 pub returns : goal.returns
 unfolding mac_registers mac_accesses

@@ -6,7 +6,7 @@ use Rattle.products.proofs.Pairs.{pair_fields, pair_trapped, pair_carries}
 use Rattle.fields.proofs.Accumulators.{within}
 use Rattle.products.proofs.Ranges.{x_step, y_step, accumulator_kept, product_kept}
 use Rattle.products.proofs.mac.pair.Goals as goal
-use Rattle.products.proofs.mac.pair.Goals.{After-trapped, Start}
+use Rattle.products.proofs.mac.pair.Goals.{Start}
 
 small : (c : Start) → kind_in c.args.code.now c.args.at ≤ 7
 small c = (pair_fields c.args.code.now c.args.at c.requires.at_value).kind
@@ -20,23 +20,23 @@ returns-then-trap-ne0 c =
 
 pub target-t-requires : goal.target-t-requires
 target-t-requires c =
-    (c.requires.encoded, omega (arith, small (goal.at.target-t-requires c).Start))
+    record { encoded = c.requires.encoded; at_bound = omega (arith, small (goal.at.target-t-requires c).Start) }
 
 pub mac_product-p-requires : goal.mac_product-p-requires
 mac_product-p-requires c =
-    (c.requires.encoded, small (goal.at.mac_product-p-requires c).Start)
+    record { encoded = c.requires.encoded; at_bound = small (goal.at.mac_product-p-requires c).Start }
 
 pub step_pointer-requires : goal.step_pointer-requires
 step_pointer-requires c =
-    (rw c.word.ensures (mac_fields c.requires.encoded (small (goal.at.step_pointer-requires c).Start)).x, rw c.word-2.ensures (x_step c.requires.encoded (small (goal.at.step_pointer-requires c).Start)))
+    record { r_bound = rw c.word.ensures (mac_fields c.requires.encoded (small (goal.at.step_pointer-requires c).Start)).x; c_bound = rw c.word-2.ensures (x_step c.requires.encoded (small (goal.at.step_pointer-requires c).Start)) }
 
 pub step_pointer-requires-2 : goal.step_pointer-requires-2
 step_pointer-requires-2 c =
-    (rw c.word-3.ensures (mac_fields c.requires.encoded (small (goal.at.step_pointer-requires-2 c).Start)).y, rw c.word-4.ensures (y_step c.requires.encoded (small (goal.at.step_pointer-requires-2 c).Start)))
+    record { r_bound = rw c.word-3.ensures (mac_fields c.requires.encoded (small (goal.at.step_pointer-requires-2 c).Start)).y; c_bound = rw c.word-4.ensures (y_step c.requires.encoded (small (goal.at.step_pointer-requires-2 c).Start)) }
 
 pub arrive_pair-requires : goal.arrive_pair-requires
 arrive_pair-requires c =
-    (c.requires.encoded, c.requires.at_value)
+    record { encoded = c.requires.encoded; at_value = c.requires.at_value }
 
 pub kind-requires : goal.kind-requires
 kind-requires c =
@@ -47,20 +47,20 @@ accumulated-requires c =
     let acc = c.args.acc.now in
     let t = c.target-t in
     let p = c.mac_product-p in
-    let v = within acc t.result t.ensures.1 c.requires.accumulators in
-    (rw (accumulator_kept _ v) v, rw (product_kept _ p.ensures.1) p.ensures.1)
+    let v = within acc t.result t.ensures.upper_bound c.requires.accumulators in
+    record { v_value = rw (accumulator_kept _ v) v; p_bound = rw (product_kept _ p.ensures.result_bound) p.ensures.result_bound }
 
 pub returns : goal.returns
-returns-then-trap-ne0 (goal.at.returns c).After-trapped =
+returns c =
     let a = c.args in
     let acc = a.acc.now in
     let t = c.target-t in
     let p = c.mac_product-p in
-    let v = accumulator_kept _ (within acc t.result t.ensures.1 c.requires.accumulators) in
+    let v = accumulator_kept _ (within acc t.result t.ensures.upper_bound c.requires.accumulators) in
     let first = rw (c.word.ensures, c.word-2.ensures) at c.step_pointer.ensures in
     let second = rw (c.word-3.ensures, c.word-4.ensures) at c.step_pointer-2.ensures in
-    let exact = rw (v, t.ensures.0, product_kept _ p.ensures.1, c.kind.ensures) at c.accumulated.ensures in
+    let exact = rw (v, t.ensures.value, product_kept _ p.ensures.result_bound, c.kind.ensures) at c.accumulated.ensures in
     let r : to_z w64 (of_z w64 c.accumulated.result) ≡ c.accumulated.result = search rules in
     rw (c.result.ensures, r)
     (pair_carries a.settings a.mode acc a.w.now a.memory.now c.fetch_pair-f.result c.requires.encoded c.requires.at_value c.fetch_pair-f.ensures
-    c.if-trap-ne0.false c.accumulated.result p.result p.ensures.0 first second c.arrive_pair.ensures exact)
+    c.if-trap-ne0.false c.accumulated.result p.result p.ensures.value first second c.arrive_pair.ensures exact)

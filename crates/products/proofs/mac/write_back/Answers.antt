@@ -25,7 +25,7 @@ returns-then-back-eq1 c =
     let a = c.args in
     let v : to_z w64 (of_z w64 (get_or a.acc.now (1 - a.t) (pos 0))) ≡ get_or a.acc.now (1 - a.t) (pos 0) = search rules in
     let place = back_register a.back (length a.memory.now) c.if-back-eq1.true in
-    (λ settings old e. rw (place settings old, c.store-stored.ensures, c.of.ensures, v), λ settings old e. rw (place settings old))
+    record { w_after = λ settings old e. rw (place settings old, c.store-stored.ensures, c.of.ensures, v); memory_after = λ settings old e. rw (place settings old) }
 
 pub returns-else-back-eq1 : goal.returns-else-back-eq1
 unfolding put_register put_memory value_word
@@ -33,11 +33,11 @@ returns-else-back-eq1 c =
     let a = c.args in
     let v : to_z w64 (of_z w64 (get_or a.acc.now (1 - a.t) (pos 0))) ≡ get_or a.acc.now (1 - a.t) (pos 0) = search rules in
     let place = back_memory a.back (length a.memory.now) a.a.0 c.if-back-ne0.true c.if-back-eq1.false in
-    (λ settings old e. rw (place settings old e), λ settings old e. rw (place settings old e, c.word-i.ensures, c.store-stored.ensures, c.of.ensures, v))
+    record { w_after = λ settings old e. rw (place settings old e); memory_after = λ settings old e. rw (place settings old e, c.word-i.ensures, c.store-stored.ensures, c.of.ensures, v) }
 
 pub returns-else-back-ne0 : goal.returns-else-back-ne0
 unfolding put_register put_memory
 returns-else-back-ne0 c =
     let a = c.args in
     let place = back_none a.back (length a.memory.now) c.if-back-ne0.false in
-    (λ settings old e. rw (place settings old), λ settings old e. rw (place settings old))
+    record { w_after = λ settings old e. rw (place settings old); memory_after = λ settings old e. rw (place settings old) }

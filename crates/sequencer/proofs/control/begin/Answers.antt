@@ -6,38 +6,29 @@ use Rattle.form.specs.Words.{kind_in}
 use Rattle.sequencer.proofs.Begins.{begins_repeat, begins_loop, do_last}
 use borrow.Author.Rules.{rules}
 use Rattle.sequencer.proofs.control.begin.Goals as goal
-use Rattle.sequencer.proofs.control.begin.Goals.{After-at}
 
 pub returns-then-kind-lt21 : goal.returns-then-kind-lt21
 returns-then-kind-lt21 c =
     let a = c.args in
     let count = c.count_of-n in
-    let few : kind_in a.code.now a.at < 21 = rw c.kind.ensures at c.if-kind-lt21.true in (
-      (λ p follows. rw c.at.ensures follows.lasts),
-      (
-        (λ p acc oflags. begins_repeat a.code.now a.at p a.f c.at.result count.result a.w.now acc oflags a.starts.now a.passes.now count.ensures c.requires.bound few c.at.ensures),
-        rw c.at.ensures,
-      ),
-    )
+    let few : kind_in a.code.now a.at < 21 = rw c.kind.ensures at c.if-kind-lt21.true in record { lasts = (λ p follows. rw c.at.ensures follows.lasts); result_after = (λ p acc oflags. begins_repeat a.code.now a.at p a.f c.at.result count.result a.w.now acc oflags a.starts.now a.passes.now count.ensures c.requires.bound few c.at.ensures); mode_value = rw c.at.ensures }
 
 pub enter-requires : goal.enter-requires
 enter-requires c =
     let a = c.args in
     let more : 20 < kind_in a.code.now a.at = omega (arith, c.kind.ensures, c.if-kind-lt21.false) in
-    (c.requires.standing, c.requires.depth_bound more)
+    record { standing = c.requires.standing; depth_bound = c.requires.depth_bound more }
 
 pub returns : goal.returns
-returns-then-kind-lt21 (goal.at.returns c).After-at =
+returns c =
     let a = c.args in
     let count = c.count_of-n in
     let more : 20 < kind_in a.code.now a.at = omega (arith, c.kind.ensures, c.if-kind-lt21.false) in
     let most = c.requires.at_bound in
-    let done = c.enter.ensures in (
-      (λ p follows.
-          done.kept p (do_last a.code.now a.at p a.f.pc more most follows.here ∙ sym c.word.ensures) follows.lasts),
-      (
-        (λ p acc oflags.
-            begins_loop a.code.now a.at p a.f c.enter.result count.result a.w.now acc oflags a.starts.now a.passes.now count.ensures more most _ _ (done.core a.w.now acc oflags)),
-        done.mode,
-      ),
-    )
+    let done = c.enter.ensures in record {
+      lasts = (λ p follows.
+          done.kept p (do_last a.code.now a.at p a.f.pc more most follows.here ∙ sym c.word.ensures) follows.lasts);
+      result_after = (λ p acc oflags.
+          begins_loop a.code.now a.at p a.f c.enter.result count.result a.w.now acc oflags a.starts.now a.passes.now count.ensures more most _ _ (done.core a.w.now acc oflags));
+      mode_value = done.mode;
+    }

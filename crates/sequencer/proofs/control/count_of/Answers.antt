@@ -2,7 +2,6 @@
 use Rattle.sequencer.proofs.Begins.{register_range}
 use borrow.Author.Rules.{rules}
 use Rattle.sequencer.proofs.control.count_of.Goals as goal
-use Rattle.sequencer.proofs.control.count_of.Goals.{After-register}
 
 pub register-requires : goal.register-requires
 register-requires c =
@@ -13,4 +12,4 @@ pub returns-then-which : goal.returns-then-which
 returns-then-which c = rw (← c.kind-which.ensures, c.if-which.true, ← c.word.ensures) c.register.ensures
 
 pub returns : goal.returns
-returns-then-which (goal.at.returns c).After-register = rw (← c.kind-which.ensures, c.if-which.false) c.word-2.ensures
+returns c = rw (← c.kind-which.ensures, c.if-which.false) c.word-2.ensures

@@ -3,7 +3,6 @@ use native.Mathlib.Omega.{arith}
 use Rattle.sequencer.proofs.Flows.{another, no_more}
 use borrow.Author.Rules.{rules}
 use Rattle.sequencer.proofs.control.fall.Goals as goal
-use Rattle.sequencer.proofs.control.fall.Goals.{After-at}
 
 pub overflow_add-start : goal.overflow_add-start
 overflow_add-start c =
@@ -12,14 +11,8 @@ overflow_add-start c =
 
 pub returns-then-more-gt1 : goal.returns-then-more-gt1
 returns-then-more-gt1 c =
-    let a = c.args in (
-      (λ p lasts kept. another p a.f a.starts.now a.passes.now lasts kept c.at.result c.if-more-gt1.true c.at.ensures),
-      rw c.at.ensures,
-    )
+    let a = c.args in record { moves = (λ p lasts kept. another p a.f a.starts.now a.passes.now lasts kept c.at.result c.if-more-gt1.true c.at.ensures); mode_value = rw c.at.ensures }
 
 pub returns : goal.returns
-returns-then-more-gt1 (goal.at.returns c).After-at =
-    let a = c.args in (
-      (λ p lasts kept. no_more p a.f a.starts.now a.passes.now lasts kept c.at-2.result c.if-more-gt1.false c.at-2.ensures),
-      rw c.at-2.ensures,
-    )
+returns c =
+    let a = c.args in record { moves = (λ p lasts kept. no_more p a.f a.starts.now a.passes.now lasts kept c.at-2.result c.if-more-gt1.false c.at-2.ensures); mode_value = rw c.at-2.ensures }

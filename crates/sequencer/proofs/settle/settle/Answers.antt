@@ -5,23 +5,22 @@ use mir.Facts.{to_z-of_z}
 use Rattle.sequencer.proofs.Settles.{twos_written, settles_small}
 use borrow.Author.Rules.{rules}
 use Rattle.sequencer.proofs.settle.settle.Goals as goal
-use Rattle.sequencer.proofs.settle.settle.Goals.{After-way_told-1}
 
 pub returns-then-not-overflow : goal.returns-then-not-overflow
 returns-then-not-overflow c =
     let a = c.args in
-    let r = to_z-of_z c.ranges.r in (
-      (λ traps mode e.
+    let r = to_z-of_z c.ranges.r in record {
+      by_index = (λ traps mode e.
           rw r
           (settles_small traps mode a.t c.requires.t_bound a.r a.acc.now a.oflags.now a.sflags.now c.requires.twos
-          (sym (rw r at c.overflow.ensures) ∙ not-true c.overflow.result c.if-not-overflow.true))),
-      twos_written c.requires.twos a.t _ _,
-    )
+          (sym (rw r at c.overflow.ensures) ∙ not-true c.overflow.result c.if-not-overflow.true)));
+      twos_2 = twos_written c.requires.twos a.t _ _;
+    }
 
 pub limit-requires : goal.limit-requires
 limit-requires c =
-    (c.requires.t_bound, (c.requires.twos, sym c.overflow.ensures ∙ not-false c.overflow.result c.if-not-overflow.false))
+    record { t_bound = c.requires.t_bound; twos = c.requires.twos; r_value = sym c.overflow.ensures ∙ not-false c.overflow.result c.if-not-overflow.false }
 
 pub returns : goal.returns
-returns-then-not-overflow (goal.at.returns c).After-way_told-1 =
-    (rw (to_z-of_z c.ranges.r) at c.limit.ensures.by_index, c.limit.ensures.twos_2)
+returns c =
+    record { by_index = rw (to_z-of_z c.ranges.r) at c.limit.ensures.by_index; twos_2 = c.limit.ensures.twos_2 }

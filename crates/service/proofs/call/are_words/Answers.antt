@@ -7,7 +7,6 @@ use borrow.Author.Rules.{rules}
 use borrow.Author.Tests.{le-leb}
 use Rattle.integers.proofs.Whole.{same_leb}
 use Rattle.service.proofs.call.are_words.Goals as goal
-use Rattle.service.proofs.call.are_words.Goals.{Then-size-eq0}
 
 pub returns-then-size-eq0 : goal.returns-then-size-eq0
 returns-then-size-eq0 c =
@@ -16,7 +15,7 @@ returns-then-size-eq0 c =
     sym (le-leb _ _ none)
 
 pub returns : goal.returns
-returns-then-size-eq0 (goal.at.returns c).Then-size-eq0 =
+returns c =
     let args = c.args in
     let some : 0 < args.size = pos_of_ne-zero c.if-size-eq0.false in
     let both = le-div_iff_mul-le {k = args.size} {x = args.n} {y = args.words} some in

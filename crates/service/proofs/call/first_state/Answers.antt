@@ -9,7 +9,6 @@ use borrow.Author.Tests.{lt-ltb}
 use lib.Dec.{ltb}
 use lib.ListN.{length, get_or, get_or-eq_default}
 use Rattle.service.proofs.call.first_state.Goals as goal
-use Rattle.service.proofs.call.first_state.Goals.{Then-bags-eq0}
 
 pub returns-then-bags-eq0 : goal.returns-then-bags-eq0
 returns-then-bags-eq0 c = rw c.if-bags-eq0.true
@@ -22,7 +21,7 @@ returns-then-restarts-eq0 c =
     rw (none, and-false (ltb 0 args.bags))
 
 pub returns : goal.returns
-returns-then-bags-eq0 (goal.at.returns c).Then-bags-eq0 =
+returns c =
     let args = c.args in
     let some : 0 < args.bags = pos_of_ne-zero c.if-bags-eq0.false in
     rw (lt-ltb 0 args.bags some) c.begun.ensures

@@ -5,7 +5,6 @@ use native.Mathlib.Omega.{arith}
 use borrow.Author.Tests.{lt-leb}
 use Rattle.integers.proofs.Whole.{same_leb}
 use Rattle.service.proofs.call.is_inside.Goals as goal
-use Rattle.service.proofs.call.is_inside.Goals.{Then-words-size}
 
 pub returns-then-words-size : goal.returns-then-words-size
 returns-then-words-size c =
@@ -14,6 +13,6 @@ returns-then-words-size c =
     sym (lt-leb (args.window.first.0 + args.window.size) args.words past)
 
 pub returns : goal.returns
-returns-then-words-size (goal.at.returns c).Then-words-size =
+returns c =
     let args = c.args in
     same_leb args.window.first.0 (args.words - args.window.size) (args.window.first.0 + args.window.size) args.words (λ h. omega arith) (λ h. omega arith)

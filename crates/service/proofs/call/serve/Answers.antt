@@ -14,7 +14,6 @@ use Rattle.service.specs.Service.{engine_of, first_before}
 use Rattle.service.specs.Bags.{Schedule, schedule_of, bags_of}
 use Rattle.service.proofs.Schedules.{first_state, service_refused, refused_first, refused_short, service_served}
 use Rattle.service.proofs.call.serve.Goals as goal
-use Rattle.service.proofs.call.serve.Goals.{Then-refused-ne0}
 
 pub returns-then-refused-ne0 : goal.returns-then-refused-ne0
 returns-then-refused-ne0 c =
@@ -45,7 +44,7 @@ pub serve_bags-after-requires : goal.serve_bags-after-requires
 serve_bags-after-requires c = sym c.is_enough.ensures ∙ not-false _ c.if-not-is_enough.false
 
 pub returns : goal.returns
-returns-then-refused-ne0 (goal.at.returns c).Then-refused-ne0 =
+returns c =
     let args = c.args in
     let x : Engine = engine_of args.state args.memory.now in
     let d : Schedule = schedule_of args.window args.budgets.now args.restarts.now args.words.now in

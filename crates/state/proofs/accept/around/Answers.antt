@@ -12,7 +12,7 @@ pub loop-d-init : goal.loop-d-init
 loop-d-init c = (omega arith, omega arith, refl)
 
 pub is_around-requires : goal.is_around-requires
-is_around-requires c = (c.requires.file_value, omega (arith, c.requires.pc_bound))
+is_around-requires c = record { file_value = c.requires.file_value; d_bound = omega (arith, c.requires.pc_bound) }
 
 pub loop-d-preserved : goal.loop-d-preserved
 loop-d-preserved c =

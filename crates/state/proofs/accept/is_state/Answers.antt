@@ -9,7 +9,7 @@ use Rattle.program.specs.File.{program_of}
 use Rattle.program.proofs.Accepted.{accepted_blocks, program_length}
 use Rattle.state.specs.Accept.{is_state}
 use Rattle.state.proofs.accept.is_state.Goals as goal
-use Rattle.state.proofs.accept.is_state.Goals.{After-operation_count, Then-operation_count-pc}
+use Rattle.state.proofs.accept.is_state.Goals.{After-operation_count}
 
 pub operation_count-requires : goal.operation_count-requires
 operation_count-requires c = accepted_blocks c.args.file.now c.requires
@@ -24,7 +24,7 @@ returns-then-operation_count-pc c = rw (← counted (goal.at.returns-then-operat
 
 pub returns : goal.returns
 unfolding is_state
-returns-then-operation_count-pc (goal.at.returns c).Then-operation_count-pc =
+returns c =
     let core = c.args.state.core in
     let a : to_z w64 (of_z w64 core.a) ≡ core.a = search rules in
     let b : to_z w64 (of_z w64 core.b) ≡ core.b = search rules in

@@ -19,7 +19,7 @@ use Rattle.sequencer.proofs.Flows.{repeats}
 use Rattle.stepping.proofs.Works.{onward_kind, step_trapped, step_done}
 use borrow.Author.Rules.{rules}
 use Rattle.stepping.proofs.pair.step_pair.Goals as goal
-use Rattle.stepping.proofs.pair.step_pair.Goals.{After-accumulated-r, After-uncounted, Start}
+use Rattle.stepping.proofs.pair.step_pair.Goals.{After-accumulated-r, Start}
 
 small : (c : Start) → kind_in c.args.code.now c.args.at ≤ 7
 small c = (pair_fields c.args.code.now c.args.at c.requires.at_value).kind
@@ -29,8 +29,8 @@ returns-then-blocked-ne0 c =
     let a = c.args in
     let carries =
     pair_trapped a.settings a.f.mode a.acc.now a.w.now a.memory.now c.fetch_pair-fetched.result c.requires.encoded c.requires.at_value c.fetch_pair-fetched.ensures
-    c.if-blocked-ne0.true in (
-      (λ p starts passes lasts follows. rw c.uncounted.ensures
+    c.if-blocked-ne0.true in record {
+      turns = (λ p starts passes lasts follows. rw c.uncounted.ensures
           (record {
             step =
                 step_trapped a.settings p (coded_at a.code.now a.at) a.f a.acc.now a.oflags.now a.sflags.now a.w.now starts passes a.memory.now follows.here
@@ -38,29 +38,30 @@ returns-then-blocked-ne0 c =
             lasts = follows.lasts;
             mode = λ z. refl;
             twos = c.requires.twos;
-          })),
-      (rw c.uncounted.ensures, rw c.uncounted.ensures),
-    )
+          }));
+      pc_value = rw c.uncounted.ensures;
+      ends_value = rw c.uncounted.ensures;
+    }
 
 pub target-t-requires : goal.target-t-requires
 target-t-requires c =
-    (c.requires.encoded, omega (arith, small (goal.at.target-t-requires c).Start))
+    record { encoded = c.requires.encoded; at_bound = omega (arith, small (goal.at.target-t-requires c).Start) }
 
 pub mac_product-p-requires : goal.mac_product-p-requires
 mac_product-p-requires c =
-    (c.requires.encoded, small (goal.at.mac_product-p-requires c).Start)
+    record { encoded = c.requires.encoded; at_bound = small (goal.at.mac_product-p-requires c).Start }
 
 pub step_pointer-requires : goal.step_pointer-requires
 step_pointer-requires c =
-    (rw c.word.ensures (mac_fields c.requires.encoded (small (goal.at.step_pointer-requires c).Start)).x, rw c.word-2.ensures (x_step c.requires.encoded (small (goal.at.step_pointer-requires c).Start)))
+    record { r_bound = rw c.word.ensures (mac_fields c.requires.encoded (small (goal.at.step_pointer-requires c).Start)).x; c_bound = rw c.word-2.ensures (x_step c.requires.encoded (small (goal.at.step_pointer-requires c).Start)) }
 
 pub step_pointer-requires-2 : goal.step_pointer-requires-2
 step_pointer-requires-2 c =
-    (rw c.word-3.ensures (mac_fields c.requires.encoded (small (goal.at.step_pointer-requires-2 c).Start)).y, rw c.word-4.ensures (y_step c.requires.encoded (small (goal.at.step_pointer-requires-2 c).Start)))
+    record { r_bound = rw c.word-3.ensures (mac_fields c.requires.encoded (small (goal.at.step_pointer-requires-2 c).Start)).y; c_bound = rw c.word-4.ensures (y_step c.requires.encoded (small (goal.at.step_pointer-requires-2 c).Start)) }
 
 pub arrive_pair-requires : goal.arrive_pair-requires
 arrive_pair-requires c =
-    (c.requires.encoded, c.requires.at_value)
+    record { encoded = c.requires.encoded; at_value = c.requires.at_value }
 
 pub kind-requires : goal.kind-requires
 kind-requires c =
@@ -71,8 +72,8 @@ accumulated-r-requires c =
     let acc = c.args.acc.now in
     let t = c.target-t in
     let p = c.mac_product-p in
-    let v = within acc t.result t.ensures.1 c.requires.accumulators in
-    (rw (accumulator_kept _ v) v, rw (product_kept _ p.ensures.1) p.ensures.1)
+    let v = within acc t.result t.ensures.upper_bound c.requires.accumulators in
+    record { v_value = rw (accumulator_kept _ v) v; p_bound = rw (product_kept _ p.ensures.result_bound) p.ensures.result_bound }
 
 -- what the pair comes to
 abbrev result : tie.After-accumulated → Carry
@@ -94,23 +95,23 @@ carried c =
 
 pub settle-trap-requires : goal.settle-trap-requires
 settle-trap-requires c =
-    (c.target-t.ensures.upper_bound, c.requires.twos)
+    record { t_bound = c.target-t.ensures.upper_bound; twos = c.requires.twos }
 
 pub overflow_sub-f : goal.overflow_sub-f
 overflow_sub-f c = omega (arith, c.requires.lt_repeat)
 
 pub returns : goal.returns
-returns-then-blocked-ne0 (goal.at.returns c).After-uncounted =
+returns c =
     let settled = c.settle-trap in
     let a = c.args in
     let w = c.arrive_pair.new.1.1.1.1.0 in
     let acc = settled.new.1.1.1.0 in
     let oflags = settled.new.1.1.1.1.0 in
     let sflags = settled.new.1.1.1.1.1.0 in
-    let r : to_z w64 (of_z w64 c.accumulated-r.result) ≡ c.accumulated-r.result = search rules in (
-      (λ p starts passes lasts follows.
+    let r : to_z w64 (of_z w64 c.accumulated-r.result) ≡ c.accumulated-r.result = search rules in record {
+      turns = (λ p starts passes lasts follows.
           let moves = repeats p a.f starts passes lasts follows.lasts c.at-flow.result c.requires.lt_repeat c.at-flow.ensures in
-          let written = rw (r, c.target-t.ensures.value) at (settled.ensures.0 a.settings.traps a.f.mode c.requires.limits_value w starts passes a.f) in
+          let written = rw (r, c.target-t.ensures.value) at (settled.ensures.by_index a.settings.traps a.f.mode c.requires.limits_value w starts passes a.f) in
           rw c.complete.ensures
           (record {
             step =
@@ -122,7 +123,8 @@ returns-then-blocked-ne0 (goal.at.returns c).After-uncounted =
                 (moves.core w acc oflags);
             lasts = moves.lasts;
             mode = λ z. rw c.at-flow.ensures;
-            twos = settled.ensures.1;
-          })),
-      (rw (c.complete.ensures, c.at-flow.ensures), rw c.complete.ensures),
-    )
+            twos = settled.ensures.twos_2;
+          }));
+      pc_value = rw (c.complete.ensures, c.at-flow.ensures);
+      ends_value = rw c.complete.ensures;
+    }

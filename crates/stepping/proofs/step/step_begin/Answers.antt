@@ -9,7 +9,6 @@ use Rattle.integers.proofs.Whole.{both}
 use Rattle.stepping.proofs.Controls.{do_blocked, begins_step}
 use borrow.Author.Rules.{rules}
 use Rattle.stepping.proofs.step.step_begin.Goals as goal
-use Rattle.stepping.proofs.step.step_begin.Goals.{After-uncounted}
 
 -- a DO without trap 4 has room for its loop
 room : {which kind depth : ℕ} → which ≡ kind → depth ≤ 4 → (ltb 20 which && eqb depth 4) ≡ false → 20 < kind → depth < 4
@@ -34,19 +33,11 @@ returns-then-which-f c =
     })
 
 pub begin-flow-requires : goal.begin-flow-requires
-begin-flow-requires c = (
-  c.requires.encoded,
-  (
-    c.requires.bound,
-    (
-      c.requires.at_bound,
-      (c.requires.standing, room c.kind-which.ensures c.requires.standing.few c.if-which-f.false),
-    ),
-  ),
-)
+begin-flow-requires c =
+    record { encoded = c.requires.encoded; bound = c.requires.bound; at_bound = c.requires.at_bound; standing = c.requires.standing; depth_bound = room c.kind-which.ensures c.requires.standing.few c.if-which-f.false }
 
 pub returns : goal.returns
-returns-then-which-f (goal.at.returns c).After-uncounted =
+returns c =
     let a = c.args in
     let begin = c.begin-flow in
     let few = room c.kind-which.ensures c.requires.standing.few c.if-which-f.false in
@@ -54,8 +45,8 @@ returns-then-which-f (goal.at.returns c).After-uncounted =
     (record {
       step =
           begins_step settings p a.code.now a.at a.f acc oflags sflags a.w.now a.starts.now a.passes.now memory follows.here
-          c.requires.bound c.requires.at_bound few begin.new.1.1.1.1.1.0 begin.new.1.1.1.1.1.1.0 begin.result (begin.ensures.1.0 p acc oflags);
-      lasts = begin.ensures.0 p follows;
-      mode = λ z. begin.ensures.1.1;
+          c.requires.bound c.requires.at_bound few begin.new.1.1.1.1.1.0 begin.new.1.1.1.1.1.1.0 begin.result (begin.ensures.result_after p acc oflags);
+      lasts = begin.ensures.lasts p follows;
+      mode = λ z. begin.ensures.mode_value;
       twos = twos;
     })

@@ -6,7 +6,6 @@ use Rattle.form.specs.Words.{kind_in}
 use Rattle.stepping.proofs.Controls.{mode_step, early_step, clear_step}
 use borrow.Author.Rules.{rules}
 use Rattle.stepping.proofs.step.step_control.Goals as goal
-use Rattle.stepping.proofs.step.step_control.Goals.{After-complete}
 
 pub advance-flow-requires : goal.advance-flow-requires
 advance-flow-requires c =
@@ -20,7 +19,7 @@ returns-then-which-eq24 c =
     let flow = c.with_mode.ensures in
     let kind : kind_in a.code.now a.at ≡ 24 = sym c.kind-which.ensures ∙ c.if-which-eq24.true in
     λ p settings w acc oflags memory twos follows.
-    let moves = next.ensures.0 p (rw flow follows.lasts) in
+    let moves = next.ensures.moves p (rw flow follows.lasts) in
     rw c.complete.ensures
     (record {
       step =
@@ -38,30 +37,30 @@ returns-then-which-eq23 c =
     let early = c.end_early in
     let kind : kind_in a.code.now a.at ≡ 23 = sym c.kind-which.ensures ∙ c.if-which-eq23.true in
     λ p settings w acc oflags memory twos follows.
-    let moves = next.ensures.0 p follows.lasts in
+    let moves = next.ensures.moves p follows.lasts in
     rw c.complete-then-which-eq23.ensures
     (record {
       step =
           early_step settings p a.code.now a.at a.f acc oflags a.sflags.now w a.starts.now a.passes.now memory follows.here kind
           early.new.1.1.1.0 next.new.1.1.0 next.new.1.1.1.0 next.result (early.ensures p follows.lasts w acc oflags) (moves.core w acc oflags);
       lasts = moves.lasts;
-      mode = λ z. next.ensures.1;
+      mode = λ z. next.ensures.mode_value;
       twos = twos;
     })
 
 pub returns : goal.returns
-returns-then-which-eq24 (goal.at.returns c).After-complete =
+returns c =
     let a = c.args in
     let next = c.advance-flow-2 in
     let which = c.kind-which.ensures in
     λ p settings w acc oflags memory twos follows.
-    let moves = next.ensures.0 p follows.lasts in
+    let moves = next.ensures.moves p follows.lasts in
     rw c.complete-2.ensures
     (record {
       step =
           clear_step settings p a.code.now a.at a.f acc oflags a.sflags.now w a.starts.now a.passes.now memory follows.here
           c.requires.bound (λ e. c.if-which-eq23.false (which ∙ e)) (λ e. c.if-which-eq24.false (which ∙ e)) twos.saturations next.new.1.1.0 next.new.1.1.1.0 next.result (moves.core w acc oflags);
       lasts = moves.lasts;
-      mode = λ z. next.ensures.1;
+      mode = λ z. next.ensures.mode_value;
       twos = record { values = twos.values; overflows = twos.overflows; saturations = simp length-set twos.saturations };
     })

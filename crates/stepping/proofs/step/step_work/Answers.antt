@@ -6,11 +6,10 @@ use Rattle.sequencer.specs.Lent.{lent_core}
 use Rattle.stepping.proofs.Works.{onward_kind, step_trapped, step_done, writes_low}
 use borrow.Author.Rules.{rules}
 use Rattle.stepping.proofs.step.step_work.Goals as goal
-use Rattle.stepping.proofs.step.step_work.Goals.{After-uncounted}
 
 pub work-e-requires : goal.work-e-requires
 work-e-requires c =
-    (c.requires.encoded, (c.requires.at_bound, (c.requires.xwords_in_bounds, c.requires.accumulators)))
+    record { encoded = c.requires.encoded; at_bound = c.requires.at_bound; xwords_in_bounds = c.requires.xwords_in_bounds; accumulators = c.requires.accumulators }
 
 pub returns-then-blocked-ne0 : goal.returns-then-blocked-ne0
 returns-then-blocked-ne0 c =
@@ -30,20 +29,18 @@ returns-then-blocked-ne0 c =
 pub write-trap-requires : goal.write-trap-requires
 write-trap-requires c =
     let a = c.args in
-    let e = c.work-e in (
-      c.requires.encoded,
-      (
-        writes_low a.settings a.f.mode a.code.now a.at a.acc.now a.w.now a.memory.now e.new.1.1.1.1.1.0 e.new.1.1.1.1.1.1.0 e.result
-            (lent_core a.w.now a.acc.now a.oflags.now a.starts.now a.passes.now a.f) c.requires.at_bound e.ensures,
-        c.requires.twos,
-      ),
-    )
+    let e = c.work-e in record {
+      encoded = c.requires.encoded;
+      at_bound = writes_low a.settings a.f.mode a.code.now a.at a.acc.now a.w.now a.memory.now e.new.1.1.1.1.1.0 e.new.1.1.1.1.1.1.0 e.result
+          (lent_core a.w.now a.acc.now a.oflags.now a.starts.now a.passes.now a.f) c.requires.at_bound e.ensures;
+      twos = c.requires.twos;
+    }
 
 pub advance-flow-requires : goal.advance-flow-requires
 advance-flow-requires c = c.requires.standing
 
 pub returns : goal.returns
-returns-then-blocked-ne0 (goal.at.returns c).After-uncounted =
+returns c =
     let a = c.args in
     let e = c.work-e in
     let written = c.write-trap in
@@ -54,7 +51,7 @@ returns-then-blocked-ne0 (goal.at.returns c).After-uncounted =
     let oflags = written.new.1.1.1.1.1.0 in
     let sflags = written.new.1.1.1.1.1.1.0 in
     λ p follows.
-    let moves = next.ensures.0 p follows.lasts in
+    let moves = next.ensures.moves p follows.lasts in
     rw c.complete.ensures
     (record {
       step =
@@ -63,9 +60,9 @@ returns-then-blocked-ne0 (goal.at.returns c).After-uncounted =
           acc oflags sflags next.new.1.1.0 next.new.1.1.1.0 next.result written.result
           c.if-blocked-ne0.false
           (onward_kind a.code.now a.at c.requires.at_bound)
-          (written.ensures.0 a.settings.traps a.f.mode c.requires.limits_value w a.starts.now a.passes.now a.f)
+          (written.ensures.by_index a.settings.traps a.f.mode c.requires.limits_value w a.starts.now a.passes.now a.f)
           (moves.core w acc oflags);
       lasts = moves.lasts;
-      mode = λ z. next.ensures.1;
-      twos = written.ensures.1;
+      mode = λ z. next.ensures.mode_value;
+      twos = written.ensures.twos_2;
     })

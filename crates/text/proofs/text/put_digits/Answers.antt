@@ -56,10 +56,10 @@ pub returns-else-i-gt0 : goal.returns-else-i-gt0
 returns-else-i-gt0 c =
     let loop = c.loop-left in
     let full : loop.i ≤ 0 = omega (arith, ltb-false) in
-    (sym (loop.invariant.2 ∙ digits_full loop.left loop.i loop.text full c.loop-left-test.true), omega (arith, loop.invariant.1))
+    record { text_after = sym (loop.invariant.2 ∙ digits_full loop.left loop.i loop.text full c.loop-left-test.true); upper_bound = omega (arith, loop.invariant.1) }
 
 -- src/text.rt:21:1
 pub returns-after-loop-left : goal.returns-after-loop-left
 returns-after-loop-left c =
     let loop = c.loop-left in
-    (sym (loop.invariant.2 ∙ digits_end loop.left loop.i loop.text (omega arith)), omega (arith, loop.invariant.1))
+    record { text_after = sym (loop.invariant.2 ∙ digits_end loop.left loop.i loop.text (omega arith)); upper_bound = omega (arith, loop.invariant.1) }
