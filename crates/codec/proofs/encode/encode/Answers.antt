@@ -9,7 +9,7 @@ returns-in-MacClass c = rw c.in-MacClass.is c.mac_bytes.ensures
 
 pub returns-in-AddAccumulators : goal.returns-in-AddAccumulators
 unfolding encode_of
-returns-in-AddAccumulators c = rw (c.in-AddAccumulators.is, c.word_Bytes.ensures, c.target_byte.ensures)
+returns-in-AddAccumulators c = rw (c.in-AddAccumulators.is, c.word_bytes.ensures, c.target_byte.ensures)
 
 pub returns-in-Subtract : goal.returns-in-Subtract
 unfolding encode_of

@@ -41,7 +41,7 @@ returns-in-SacR c = rw c.in-SacR.is c.is_listed_operand-in-SacR.ensures
 
 pub returns-in-Literal : goal.returns-in-Literal
 unfolding is_listed
-returns-in-Literal c = rw (c.in-Literal.is, c.is_register-in-Literal.ensures, c.is_IsWord.ensures)
+returns-in-Literal c = rw (c.in-Literal.is, c.is_register-in-Literal.ensures, c.is_word.ensures)
 
 pub returns-in-Load : goal.returns-in-Load
 unfolding is_listed

@@ -7,4 +7,4 @@ pub returns : goal.returns
 returns c =
     let far = c.wrapping_sub_u16-far in
     let small : Fits w16 far.result = search rules in
-    record { self_value = number_address _ far.result small.fits far.ensures; by_index = address_number _ far.result small.fits far.ensures }
+    record { self_value = number_address _ far.result small.fits far.ensures.value; by_index = address_number _ far.result small.fits far.ensures.value }
