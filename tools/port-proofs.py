@@ -70,6 +70,13 @@ class Function:
             for new, step, old in arm[2] if arm else []:
                 self.arms[(norm(step), tuple(old))] = [arm[0], new]
         self.loops = list(zip(data["loops"], data["changed"]))
+        self.params = data["params"]
+        # an arm is made in steps: the last of its places is meant
+        last = set(data["places_by_name"])
+        for old, new in list(self.places.items()):
+            m = re.match(r"(In.*)-\d+$", new)
+            if m and m[1] in last:
+                self.places[old] = m[1]
 
     def goal(self, old):
         n = norm(old)
@@ -133,7 +140,7 @@ class Turner:
     def path(self, m, at, goal):
         """One path: a root, its fields."""
         fn = self.fn
-        root, fields = m[1], m[2].split(".")[1:]
+        root, fields = m[1], [f[:-4] if f.endswith("_lem") else f for f in m[2].split(".")[1:]]
         at_place = at[root]
         befores = 0
         while fields and fields[0] == "before":
@@ -155,9 +162,19 @@ class Turner:
         k = 0
         while k < len(fields):
             f = fields[k]
-            f = {"type-inv": "type_inv", "well-formed": "well_formed"}.get(f, f)
             out.append(f)
             k += 1
+            if f in ("new", "auto") and step in fn.callee:
+                ones = 0
+                while k < len(fields) and fields[k] == "1":
+                    ones += 1
+                    k += 1
+                params = fn.params.get(fn.callee[step], [])
+                if k < len(fields) and fields[k] == "0" and ones < len(params):
+                    out.append(params[ones])
+                    k += 1
+                else:
+                    out += ["1"] * ones
             if f in ("requires", "ensures"):
                 digits = []
                 while k < len(fields) and fields[k] in ("0", "1"):
@@ -213,7 +230,7 @@ class Turner:
 
     def distance(self, place, want):
         n, here = 0, place
-        while here and here != want:
+        while here and here != want and n < 200:
             p = self.fn.parent.get(here)
             here = self.fn.places.get(p) if p else None
             n += 1
@@ -288,9 +305,8 @@ def turn_file(path, crate, data, all_clauses, say):
         body = "\n".join(d["rest"])
         b = re.match(rf"\s*{re.escape(d['name'])}\s*([^=]*?)\s*=(.*)$", body, re.S)
         binders, rest = b[1].split(), b[2]
-        same = [v for v, ch in zip(found[1], found[2]) if not ch]
         moved = [v for v, ch in zip(found[1], found[2]) if ch]
-        want = [f"l.{v}" for v in same] + [f"l.initial.{v}" for v in moved] + [f"l.{v}" for v in moved]
+        want = [f"l.initial.{v}" if ch else f"l.{v}" for v, ch in zip(found[1], found[2])] + [f"l.{v}" for v in moved]
         if len(binders) != len(want):
             said.append(f"{m[1]} has {len(binders)} binders for {len(want)}: {' '.join(found[1])}")
         table = {x: w for x, w in zip(binders, want) if x != "_"}
@@ -318,6 +334,8 @@ def turn_file(path, crate, data, all_clauses, say):
                 if re.search(rf"{BARE}{a}{END}", tail):
                     said.append(f"{a} is used in {d['new']}")
             tail = fields_of(fn, tail)
+            tail = re.sub(r"not-(?:true|false) [^\s()]+ (c\.if-not-[\w'-]+\.(?:true|false))", r"\1", tail)
+            tail = re.sub(r"\((c\.if-not-[\w'-]+\.(?:true|false))\)", r"\1", tail)
             tail = as_record(tail, asked_clauses(fn, d["new"]))
             d["out"] = f"pub {d['new']} : goal.{d['new']}\n{lead}{d['new']} c ={tail}"
             answers.append(d)
@@ -427,13 +445,10 @@ def as_record(tail, names):
     """A tuple at the end of an answer to named clauses, as a record of them."""
     if len(names) < 2 or any(n is None for n in names):
         return tail
-    m = re.match(r"^((?:\s*let .*? in\b(?=\s)(?:\s*\n)?)*)(\s*)(\(.*)$", tail, re.S)
-    cut = [m.start(3)] if m else []
-    cut += [m.end(1) for m in re.finditer(r"\bin (\()|\bin\n\s*(\()", tail)]
-    places = sorted({i for i in range(len(tail)) if tail[i] == "("})
-    for i in places:
+    for i in sorted({i for i in range(len(tail)) if tail[i] == "("}):
         before = tail[:i].rstrip()
-        if before and not re.search(r"\bin$", before):
+        inner = bool(before) and not re.search(r"\bin$", before)
+        if inner and not re.search(r"\brw\b", before):
             continue
         parts, rest = [], tail[i:]
         while len(parts) < len(names) - 1:
@@ -448,7 +463,8 @@ def as_record(tail, names):
                 rest = got[1]
         parts.append(rest.strip())
         if len(parts) == len(names):
-            return tail[:i] + "record { " + "; ".join(f"{n} = {x}" for n, x in zip(names, parts)) + " }"
+            whole = "record { " + "; ".join(f"{n} = {x}" for n, x in zip(names, parts)) + " }"
+            return tail[:i] + (f"({whole})" if inner else whole)
     return tail
 
 

@@ -19,16 +19,16 @@ pub returns-then-not-are_accumulators : goal.returns-then-not-are_accumulators
 unfolding combine_refusal
 returns-then-not-are_accumulators c =
     let some = c.are_accumulators in
-    rw (c.if-count.false, ← some.ensures, not-true some.result c.if-not-are_accumulators.true)
+    rw (c.if-count.false, ← some.ensures, c.if-not-are_accumulators.true)
 
 pub returns-then-is_good : goal.returns-then-is_good
 unfolding combine_refusal
 returns-then-is_good c =
     let some = c.are_accumulators in
-    rw (c.if-count.false, ← some.ensures, not-false some.result c.if-not-are_accumulators.false, ← c.is_good.ensures, c.if-is_good.true)
+    rw (c.if-count.false, ← some.ensures, c.if-not-are_accumulators.false, ← c.is_good.ensures, c.if-is_good.true)
 
 pub returns-else-is_good : goal.returns-else-is_good
 unfolding combine_refusal
 returns-else-is_good c =
     let some = c.are_accumulators in
-    rw (c.if-count.false, ← some.ensures, not-false some.result c.if-not-are_accumulators.false, ← c.is_good.ensures, c.if-is_good.false)
+    rw (c.if-count.false, ← some.ensures, c.if-not-are_accumulators.false, ← c.is_good.ensures, c.if-is_good.false)

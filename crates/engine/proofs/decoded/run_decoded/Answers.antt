@@ -55,7 +55,7 @@ run_accepted-requires c =
     let count = c.operation_count-count.ensures in
     let room : 16 * operation_count file ≤ length c.args.words.now = rw count at c.if-words-count.false in
     let one = (count_range file (accepted_blocks file accepted)).0 in
-    let long = c.decode_program.auto.1.0 in
+    let long = c.decode_program.auto.to in
     record { file_value = accepted; state_value = call_state _ _ _ _ none; xwords_in_bounds = x_part_in _ _ (call_settings _ _ _ _ none); covers = rw count (whole_window file _ _ accepted c.decode_program.ensures); in_bounds = omega (arith, room, one, long) }
 
 pub returns : goal.returns

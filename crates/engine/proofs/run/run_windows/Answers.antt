@@ -56,7 +56,7 @@ returns-then-not-is_elsewhere c =
     let has = c.cover-here.ensures in
     let went = c.run_on-r.ensures in
     let leg = went.0 (program_of file) has.covers (way_stood inv.0) in
-    let stays = sym c.is_elsewhere.ensures ∙ not-true _ c.if-not-is_elsewhere.true in
+    let stays = sym c.is_elsewhere.ensures ∙ c.if-not-is_elsewhere.true in
     record { result_after = goes_ended inv.0 _ (rw went.1 stays) leg ∙ all_left (program_of file) a.settings a.budget (engine_in h a.flow); words_unchanged = λ e. (kept_whole inv.1.1.1 below has e).1 }
 
 pub loop-settings-smaller : goal.loop-settings-smaller
@@ -65,7 +65,7 @@ loop-settings-smaller c =
     let inv = c.loop-settings.invariant in
     let has = c.cover-here.ensures in
     let leg = c.run_on-r.ensures.goes (program_of file) has.covers (way_stood inv.0) in
-    let on = sym c.is_elsewhere.ensures ∙ not-false _ c.if-not-is_elsewhere.false in
+    let on = sym c.is_elsewhere.ensures ∙ c.if-not-is_elsewhere.false in
     omega (arith, leg.within, elsewhere_more inv.0 on has.low has.high leg)
 
 pub loop-settings-preserved : goal.loop-settings-preserved
@@ -78,5 +78,5 @@ loop-settings-preserved c =
     let has = c.cover-here.ensures in
     let went = c.run_on-r.ensures in
     let leg = went.0 (program_of file) has.covers (way_stood inv.0) in
-    let on = sym c.is_elsewhere.ensures ∙ not-false _ c.if-not-is_elsewhere.false in
-    (way_along inv.0 leg (rw went.1 on), (has.covers, (c.cover-here.auto.1.1.1.0 ∙ inv.1.1.0, kept_whole inv.1.1.1 below has)))
+    let on = sym c.is_elsewhere.ensures ∙ c.if-not-is_elsewhere.false in
+    (way_along inv.0 leg (rw went.1 on), (has.covers, (c.cover-here.auto.words ∙ inv.1.1.0, kept_whole inv.1.1.1 below has)))

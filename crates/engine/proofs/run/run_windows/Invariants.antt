@@ -17,10 +17,10 @@ use Rattle.engine.proofs.run.run_windows.Given as goal
 -- nothing.
 abbrev pub invariant-loop-settings : goal.invariant-loop-settings
 invariant-loop-settings l =
-    let h₀ : Held = record { w = l.initial.sflags; acc = l.initial.words; oflags = l.initial.acc; sflags = l.initial.oflags; starts = l.initial.lasts; passes = l.initial.starts; lasts = l.initial.w; memory = l.initial.passes } in
+    let h₀ : Held = record { w = l.initial.w; acc = l.initial.acc; oflags = l.initial.oflags; sflags = l.initial.sflags; starts = l.initial.starts; passes = l.initial.passes; lasts = l.initial.lasts; memory = l.initial.memory } in
     let h : Held = record { w = l.w; acc = l.acc; oflags = l.oflags; sflags = l.sflags; starts = l.starts; passes = l.passes; lasts = l.lasts; memory = l.memory } in
-    Way (program_of l.file) l.budget l.count h₀ l.initial.f l.initial.steps h l.f l.steps × (Covers l.file l.words l.at × (length l.words ≡ length l.settings × (l.initial.at ≡ whole_of l.file → (l.at ≡ l.initial.at) × (l.words ≡ l.settings))))
+    Way (program_of l.file) l.settings l.budget h₀ l.initial.f l.initial.steps h l.f l.steps × (Covers l.file l.words l.at × (length l.words ≡ length l.initial.words × (l.initial.at ≡ whole_of l.file → (l.at ≡ l.initial.at) × (l.words ≡ l.initial.words))))
 
 abbrev pub decreases-loop-settings : goal.decreases-loop-settings
 decreases-loop-settings l =
-    l.count - l.steps
+    l.budget - l.steps

@@ -24,4 +24,4 @@ pub returns : goal.returns
 unfolding word_at
 returns c =
     let a = c.args in
-    λ settings purpose r w e. rw (memory_operand settings purpose r a.form (length a.memory.now) a.a.0 w c.if-form-eq0.false e) c.word_at_lem.ensures
+    λ settings purpose r w e. rw (memory_operand settings purpose r a.form (length a.memory.now) a.a.0 w c.if-form-eq0.false e) c.word_at.ensures

@@ -7,6 +7,6 @@ use Rattle.fields.proofs.pointer.step_pointer.Goals as goal
 
 pub returns : goal.returns
 returns c =
-    let by = c.step_of_lem in
+    let by = c.step_of in
     let step : to_z w16 (of_z w16 by.result) ≡ by.result = search rules in
     rw (c.set_register.ensures, c.moved-to.ensures, step, by.ensures)

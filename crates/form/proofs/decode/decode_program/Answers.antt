@@ -38,7 +38,7 @@ loop-i-preserved c =
     let file = c.args.file.now in
     let i = c.loop-i.i in
     let to = c.loop-i.to in
-    let last = c.decode_operation.new.1.1.0 in
+    let last = c.decode_operation.new.to in
     let before : i < operation_count file = omega arith in (
       c.loop-i.invariant.0,
       omega arith,
@@ -46,7 +46,7 @@ loop-i-preserved c =
       rw (first_more file c.requires.file_value i before)
           (over_more (form_of (operations_in Blocks file i)) (words_of_bytes (bytes_of Blocks file i)) c.args.to.now to last (16 * i) (sym (first_length file c.requires.file_value i)) c.loop-i.invariant.3
           (rw (program_nth file c.requires.file_value i EndEarly before, bytes_again file c.requires.file_value i before) at (c.decode_operation.ensures EndEarly))),
-      same_len_mid (16 * i) (length to - 16 * i) to last c.decode_operation.auto.1.1.0 ∙ c.loop-i.invariant.4,
+      same_len_mid (16 * i) (length to - 16 * i) to last c.decode_operation.auto.to ∙ c.loop-i.invariant.4,
     )
 
 pub returns : goal.returns

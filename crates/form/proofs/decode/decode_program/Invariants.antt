@@ -18,7 +18,7 @@ use Rattle.form.proofs.Programs.{first_length, first_more, bytes_again}
 use Rattle.form.proofs.decode.decode_program.Given as goal
 
 abbrev pub invariant-loop-i : goal.invariant-loop-i
-invariant-loop-i l = (l.initial.to ≡ operation_count l.file) × (l.i ≤ l.initial.to) × (l.initial.to ≤ 4032) × (l.to ≡ over (form_of (operations_in Blocks l.file l.i)) l.n) × (length l.to ≡ length l.n)
+invariant-loop-i l = (l.n ≡ operation_count l.file) × (l.i ≤ l.n) × (l.n ≤ 4032) × (l.to ≡ over (form_of (operations_in Blocks l.file l.i)) l.initial.to) × (length l.to ≡ length l.initial.to)
 
 abbrev pub decreases-loop-i : goal.decreases-loop-i
-decreases-loop-i l = l.initial.to - l.i
+decreases-loop-i l = l.n - l.i

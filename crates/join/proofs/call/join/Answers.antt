@@ -28,7 +28,7 @@ joinable : (c : Else-total-gt4032)
     c.operation_count-n.result
 joinable c =
     record {
-      first_accepted = opens c.before.before.before.before.before.before;
+      first_accepted = opens c.BEFORE-In_default;
       second_accepted = follows c.before.before.before;
       count = c.operation_count-n.ensures;
       few = omega (arith, c.operation_count.ensures, c.if-total-gt4032.false);

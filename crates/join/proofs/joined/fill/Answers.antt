@@ -38,13 +38,13 @@ loop-j-preserved c =
     let from = c.args.from in
     let j = c.loop-j.j in
     let part = c.loop-j.part in
-    let last = c.copy.new.1.0 in
+    let last = c.copy.new.to in
     let inside : 8 * (from + j) ≤ length bytes = omega (arith, bytes_length first second c.args.n c.requires.joinable) in (
       omega arith,
       rw (part_next bytes from j)
           (over_more (take (8 * j) (drop (8 * from) bytes)) (bytes_of Consecutive bytes (from + j)) c.args.part.now part last (8 * j)
           (part_length bytes from j inside) c.loop-j.invariant.1 (rw c.bytes_of-b.ensures at c.copy.ensures)),
-      same_len_mid (8 * j) (length part - 8 * j) part last c.copy.auto.1.0 ∙ c.loop-j.invariant.2,
+      same_len_mid (8 * j) (length part - 8 * j) part last c.copy.auto.to ∙ c.loop-j.invariant.2,
     )
 
 pub returns : goal.returns

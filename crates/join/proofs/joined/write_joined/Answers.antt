@@ -17,12 +17,12 @@ use Rattle.join.proofs.joined.write_joined.Goals as goal
 use Rattle.join.proofs.joined.write_joined.Goals.{After-fill}
 
 -- the part has its length after `fill`
-long : (c : After-fill) → length c.fill.new.1.1.1.1.1.0 ≡ 504
-long c = c.fill.auto.1.1.1.1.1.0 ∙ c.loop-k.invariant.4
+long : (c : After-fill) → length c.fill.new.part ≡ 504
+long c = c.fill.auto.part ∙ c.loop-k.invariant.4
 
 -- and its start is the block's operations
 body : (c : After-fill)
-    → take (8 * c.part_count-some.result - 0) c.fill.new.1.1.1.1.1.0
+    → take (8 * c.part_count-some.result - 0) c.fill.new.part
     ≡ part_at (joined_bytes c.args.first.now c.args.second.now) c.loop-k.k
 body c =
     let some = c.part_count-some.result in
@@ -33,7 +33,7 @@ body c =
     let bytes = joined_bytes first second in
     let sum : c.args.total ≡ n + operation_count second = c.requires.total_value in
     let is : some ≡ min 63 (n + operation_count second - 63 * k) = c.part_count-some.ensures ∙ ap (λ (t : ℕ). min 63 (t - 63 * k)) sum in
-    front (take (8 * some) (drop (8 * (63 * k)) bytes)) c.loop-k.part c.fill.new.1.1.1.1.1.0 (8 * some)
+    front (take (8 * some) (drop (8 * (63 * k)) bytes)) c.loop-k.part c.fill.new.part (8 * some)
     (part_length bytes (63 * k) some (omega (arith, is, bytes_length first second n c.requires.joinable))) c.fill.ensures
     ∙ joined_part first second n c.requires.joinable k some is
 
@@ -46,20 +46,20 @@ fill-requires c =
 pub write_block-requires : goal.write_block-requires
 write_block-requires c =
     rw (body (goal.at.write_block-requires c).After-fill)
-    (omega arith, (part_most (joined_bytes c.args.first.now c.args.second.now) c.loop-k.k, simp (length-take, length-drop) (omega arith)))
+    (record { k_bound = omega arith; body_len_bound = part_most (joined_bytes c.args.first.now c.args.second.now) c.loop-k.k; in_bounds = simp (length-take, length-drop) (omega arith) })
 
 pub loop-k-preserved : goal.loop-k-preserved
 loop-k-preserved c =
     let bytes = joined_bytes c.args.first.now c.args.second.now in
     let k = c.loop-k.k in
     let out = c.loop-k.out in
-    let last = c.write_block.new.1.1.0 in (
+    let last = c.write_block.new.out in (
       refl,
       omega arith,
       rw add-one
           (over_more (file_first bytes k) (block_of k (part_at bytes k)) c.args.out.now out last (512 * k) (sym (file_first_length bytes k)) c.loop-k.invariant.2
           (rw (body (goal.at.loop-k-preserved c).After-fill) at c.write_block.ensures)),
-      same_len_mid (512 * k) (length out - 512 * k) out last c.write_block.auto.1.1.0 ∙ c.loop-k.invariant.3,
+      same_len_mid (512 * k) (length out - 512 * k) out last c.write_block.auto.out ∙ c.loop-k.invariant.3,
       long (goal.at.loop-k-preserved c).After-fill,
     )
 

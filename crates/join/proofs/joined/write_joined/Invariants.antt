@@ -17,7 +17,7 @@ use Rattle.join.proofs.joined.write_joined.Given as goal
 
 abbrev pub invariant-loop-k : goal.invariant-loop-k
 invariant-loop-k l =
-    (l.initial.part ≡ (l.total + 62) / 63) × (l.k ≤ l.initial.part) × (l.out ≡ over (file_first (joined_bytes l.first l.second) l.k) l.count) × (length l.out ≡ length l.count) × (length l.part ≡ 504)
+    (l.count ≡ (l.total + 62) / 63) × (l.k ≤ l.count) × (l.out ≡ over (file_first (joined_bytes l.first l.second) l.k) l.initial.out) × (length l.out ≡ length l.initial.out) × (length l.part ≡ 504)
 
 abbrev pub decreases-loop-k : goal.decreases-loop-k
-decreases-loop-k l = l.initial.part - l.k
+decreases-loop-k l = l.count - l.k

@@ -16,8 +16,8 @@ use Rattle.legs.proofs.leg.repeat_on.Given as goal
 
 abbrev pub invariant-loop-settings : goal.invariant-loop-settings
 invariant-loop-settings l =
-    let h₀ : Held = record { w = l.memory; acc = l.lasts; oflags = l.starts; sflags = l.passes; starts = l.initial.acc; passes = l.initial.oflags; lasts = l.at; memory = l.initial.sflags } in
-    let h : Held = record { w = l.w; acc = l.acc; oflags = l.oflags; sflags = l.sflags; starts = l.initial.acc; passes = l.initial.oflags; lasts = l.at; memory = l.initial.sflags } in
+    let h₀ : Held = record { w = l.initial.w; acc = l.initial.acc; oflags = l.initial.oflags; sflags = l.initial.sflags; starts = l.starts; passes = l.passes; lasts = l.lasts; memory = l.memory } in
+    let h : Held = record { w = l.w; acc = l.acc; oflags = l.oflags; sflags = l.sflags; starts = l.starts; passes = l.passes; lasts = l.lasts; memory = l.memory } in
     ((p : List Operation) → Window p l.code l.first l.count → Stood p l.settings h₀ l.initial.f → Way p l.settings l.budget h₀ l.initial.f l.steps h l.f l.total)
     × (l.limits ≡ limits_for l.settings.traps l.f.mode)
     × (l.total < l.budget)

@@ -26,7 +26,7 @@ returns-then-not-is_onward c =
       goes = (λ p window stood.
           let way = c.loop-settings.invariant p window stood in
           rw c.ended.ensures (goes_along way (leg.ensures p window (way_stood way))));
-      pause_value = rw c.ended.ensures (sym c.is_onward.ensures ∙ not-true _ c.if-not-is_onward.true);
+      pause_value = rw c.ended.ensures (sym c.is_onward.ensures ∙ c.if-not-is_onward.true);
     }
 
 pub loop-settings-smaller : goal.loop-settings-smaller
@@ -34,11 +34,11 @@ loop-settings-smaller c =
     let known = c.requires.known in
     let way = c.loop-settings.invariant known.program known.window known.stood in
     let leg = c.leg_on-r.ensures known.program known.window (way_stood way) in
-    omega (arith, leg.within, leg.more (sym c.is_onward.ensures ∙ not-false _ c.if-not-is_onward.false))
+    omega (arith, leg.within, leg.more (sym c.is_onward.ensures ∙ c.if-not-is_onward.false))
 
 pub loop-settings-preserved : goal.loop-settings-preserved
 loop-settings-preserved c =
     let leg = c.leg_on-r in
     λ p window stood.
     let way = c.loop-settings.invariant p window stood in
-    way_along way (leg.ensures p window (way_stood way)) (rw (sym c.is_onward.ensures ∙ not-false _ c.if-not-is_onward.false))
+    way_along way (leg.ensures p window (way_stood way)) (rw (sym c.is_onward.ensures ∙ c.if-not-is_onward.false))

@@ -7,5 +7,5 @@ use Rattle.loader.proofs.block.put_unsummed.Goals as goal
 pub returns : goal.returns
 returns c =
     unsummed_put c.args.k c.args.body.now c.args.out.now
-    c.put_header.new.1.1.0 c.copy.new.1.0 c.clear.new.0
+    c.put_header.new.out c.copy.new.to c.clear.new.s
     (omega arith) (omega arith) c.put_header.ensures c.copy.ensures c.clear.ensures

@@ -10,5 +10,5 @@ bounds-out-5 c = simp length-set (omega arith)
 
 pub returns : goal.returns
 returns c =
-    block_put c.args.k c.args.body.now c.args.out.now c.put_unsummed.new.1.1.0 c.block_sum-sum.result
+    block_put c.args.k c.args.body.now c.args.out.now c.put_unsummed.new.out c.block_sum-sum.result
     (omega arith) c.put_unsummed.ensures c.block_sum-sum.ensures

@@ -14,10 +14,10 @@ use Rattle.loader.proofs.file.check_blocks.Goals as goal
 
 pub returns-then-not-is_file_size : goal.returns-then-not-is_file_size
 unfolding blocks_refusal
-returns-then-not-is_file_size c = rw (← c.is_file_size.ensures, not-true c.is_file_size.result c.if-not-is_file_size.true)
+returns-then-not-is_file_size c = rw (← c.is_file_size.ensures, c.if-not-is_file_size.true)
 
 pub loop-k-init : goal.loop-k-init
-loop-k-init c = (refl, sym c.is_file_size.ensures ∙ not-false _ c.if-not-is_file_size.false, omega arith, refl)
+loop-k-init c = (refl, sym c.is_file_size.ensures ∙ c.if-not-is_file_size.false, omega arith, refl)
 
 pub returns-in_default : goal.returns-in_default
 unfolding blocks_refusal

@@ -20,7 +20,7 @@ pub check_operations-requires : goal.check_operations-requires
 check_operations-requires c =
     let file = c.args.file.now in
     let right : blocks_refusal file ≡ 0 = sym c.check_blocks-blocks.ensures ∙ ap verdict_number c.in-Accepted.is in
-    rw c.operation_count-n.ensures ((count_range file right).1, span_inside file right)
+    rw c.operation_count-n.ensures (record { n_bound = (count_range file right).1; n_in_bounds = span_inside file right })
 
 pub returns : goal.returns
 unfolding file_refusal

@@ -29,13 +29,7 @@ pub copy_body-n-requires : goal.copy_body-n-requires
 copy_body-n-requires c =
     let file = c.args.file.now in
     let l = c.loop-k-test.true in
-    rw part_of (
-      block_at_length file c.loop-k.k l,
-      (
-        file_most file c.requires.file_value c.loop-k.k l,
-        simp (length-take, length-drop) (omega (arith, room (goal.at.copy_body-n-requires c).In-loop-k)),
-      ),
-    )
+    rw part_of (record { block_len = block_at_length file c.loop-k.k l; block_bound = file_most file c.requires.file_value c.loop-k.k l; block_in_bounds = simp (length-take, length-drop) (omega (arith, room (goal.at.copy_body-n-requires c).In-loop-k)) })
 
 pub overflow_add-n : goal.overflow_add-n
 overflow_add-n c =
@@ -51,12 +45,12 @@ loop-k-preserved c =
     let k = c.loop-k.k in
     let n = c.loop-k.n in
     let to = c.loop-k.to in
-    let last = c.copy_body-n.new.1.0 in (
+    let last = c.copy_body-n.new.to in (
       refl,
       omega arith,
       rw (add-one, length-append (bodies_first file k) (body_of (block_at file k)), ← c.loop-k.invariant.2, c.copy_body-n.ensures.value, part_of),
       rw add-one (over_more (bodies_first file k) (body_of (block_at file k)) c.args.to.now to last n c.loop-k.invariant.2 c.loop-k.invariant.3 (rw part_of at c.copy_body-n.ensures.to_after)),
-      same_len_mid n (length to - n) to last c.copy_body-n.auto.1.0 ∙ c.loop-k.invariant.4,
+      same_len_mid n (length to - n) to last c.copy_body-n.auto.to ∙ c.loop-k.invariant.4,
     )
 
 pub returns : goal.returns

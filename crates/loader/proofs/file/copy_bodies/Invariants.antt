@@ -15,7 +15,7 @@ use Rattle.program.proofs.Files.{block_at_length, file_most, bodies_room}
 use Rattle.loader.proofs.file.copy_bodies.Given as goal
 
 abbrev pub invariant-loop-k : goal.invariant-loop-k
-invariant-loop-k l = (l.initial.to ≡ length l.file / 512) × (l.k ≤ l.initial.to) × (l.n ≡ length (bodies_first l.file l.k)) × (l.to ≡ over (bodies_first l.file l.k) l.count) × (length l.to ≡ length l.count)
+invariant-loop-k l = (l.count ≡ length l.file / 512) × (l.k ≤ l.count) × (l.n ≡ length (bodies_first l.file l.k)) × (l.to ≡ over (bodies_first l.file l.k) l.initial.to) × (length l.to ≡ length l.initial.to)
 
 abbrev pub decreases-loop-k : goal.decreases-loop-k
-decreases-loop-k l = l.initial.to - l.k
+decreases-loop-k l = l.count - l.k

@@ -19,13 +19,13 @@ pub returns-then-not-ends_below : goal.returns-then-not-ends_below
 returns-then-not-ends_below c =
     let args = c.args in
     let test = is_inner (operations_in args.layout args.s.now args.n) args.d args.e in
-    rw (all_stop test c.loop-j.j (args.e - args.d) (omega arith) (rw (← c.role_at-role.ensures, ← c.ends_below.ensures) (not-true _ c.if-not-ends_below.true)))
+    rw (all_stop test c.loop-j.j (args.e - args.d) (omega arith) (rw (← c.role_at-role.ensures, ← c.ends_below.ensures) c.if-not-ends_below.true))
 
 pub loop-j-preserved : goal.loop-j-preserved
 loop-j-preserved c =
     let args = c.args in
     let test = is_inner (operations_in args.layout args.s.now args.n) args.d args.e in
-    (omega arith, all_more test c.loop-j.j c.loop-j.invariant.1 (rw (← c.role_at-role.ensures, ← c.ends_below.ensures) (not-false _ c.if-not-ends_below.false)))
+    (omega arith, all_more test c.loop-j.j c.loop-j.invariant.1 (rw (← c.role_at-role.ensures, ← c.ends_below.ensures) c.if-not-ends_below.false))
 
 pub returns : goal.returns
 returns c =

@@ -13,13 +13,13 @@ use Rattle.program.proofs.Trips.{reloaded}
 use borrow.Author.Rules.{rules}
 use native.Mathlib.Omega.{arith}
 use Rattle.loader.proofs.trip.reload.Goals as goal
-use Rattle.loader.proofs.trip.reload.Goals.{In-Written-2}
+use Rattle.loader.proofs.trip.reload.Goals.{In-Written}
 
 -- what a write that is answered by its size gives
-written : (c : In-Written-2) →
+written : (c : In-Written) →
     (write_refusal c.args.operations.now (length c.args.out.now) ≡ 0)
     × (c.in-Written.size ≡ length (file_of c.args.operations.now))
-    × (c.write-written.new.1.0 ≡ over (file_of c.args.operations.now) c.args.out.now)
+    × (c.write-written.new.out ≡ over (file_of c.args.operations.now) c.args.out.now)
 written c = filled_written (rw c.in-Written.is at c.write-written.ensures)
 
 pub returns-in-Refused : goal.returns-in-Refused
@@ -48,8 +48,8 @@ returns c =
     let args = c.args in
     let operations = args.operations.now in
     let again = args.again.now in
-    let (accepted, size, after) = written (goal.at.returns c).In-Written-2 in
-    let part = front (file_of operations) args.out.now c.write-written.new.1.0 _ size after in (
+    let (accepted, size, after) = written (goal.at.returns c).In-Written in
+    let part = front (file_of operations) args.out.now c.write-written.new.out _ size after in (
       reloaded operations _ again _ (length args.out.now) _ accepted part c.load.ensures,
       rw (accepted, room_fits (length operations) (length again) c.if-again-operations.false) after,
     )

@@ -14,13 +14,13 @@ use Rattle.program.proofs.Trips.{rewritten}
 use borrow.Author.Rules.{rules}
 use native.Mathlib.Omega.{arith}
 use Rattle.loader.proofs.trip.rewrite.Goals as goal
-use Rattle.loader.proofs.trip.rewrite.Goals.{In-Written-2}
+use Rattle.loader.proofs.trip.rewrite.Goals.{In-Written}
 
 -- what a load that is answered by its size gives
-written : (c : In-Written-2) →
+written : (c : In-Written) →
     (load_refusal c.args.file.now (length c.args.operations.now) ≡ 0)
     × (c.in-Written.size ≡ length (bodies_of c.args.file.now))
-    × (c.load-loaded.new.1.0 ≡ over (bodies_of c.args.file.now) c.args.operations.now)
+    × (c.load-loaded.new.operations ≡ over (bodies_of c.args.file.now) c.args.operations.now)
 written c = filled_written (rw c.in-Written.is at c.load-loaded.ensures)
 
 pub returns-in-Refused : goal.returns-in-Refused
@@ -50,9 +50,9 @@ returns c =
     let file = args.file.now in
     let out = args.out.now in
     let room : ℕ = length args.operations.now in
-    let (accepted, size, after) = written (goal.at.returns c).In-Written-2 in
+    let (accepted, size, after) = written (goal.at.returns c).In-Written in
     let bytes : AreBytes file = λ i. omega (arith, c.shared_slice_known-1.given i) in
-    let part = front (bodies_of file) args.operations.now c.load-loaded.new.1.0 _ size after in (
+    let part = front (bodies_of file) args.operations.now c.load-loaded.new.operations _ size after in (
       rewritten file _ out _ room _ bytes accepted part c.write.ensures,
       rw (accepted, room_fits (length file) (length out) c.if-out-file.false) after,
     )

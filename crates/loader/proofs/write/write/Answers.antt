@@ -27,15 +27,15 @@ file_size-size-requires c = program_fits c.args.operations.now (right (goal.at.f
 pub returns-then-out-size : goal.returns-then-out-size
 returns-then-out-size c =
     filled_refused _ _ _ Room
-    (sym (write_short c.args.operations.now (right (goal.at.returns-then-out-size c).In_default) (length c.args.out.now) (rw (← c.file_size_lem.ensures) c.if-out-size.true)))
+    (sym (write_short c.args.operations.now (right (goal.at.returns-then-out-size c).In_default) (length c.args.out.now) (rw (← c.file_size-size.ensures) c.if-out-size.true)))
 
 pub write_blocks-requires : goal.write_blocks-requires
 write_blocks-requires c =
-    record { operations_len_bound = program_fits c.args.operations.now (right (goal.at.write_blocks-requires c).In_default); operations_in_bounds = rw (← c.file_size_lem.ensures) c.if-out-size.false }
+    record { operations_len_bound = program_fits c.args.operations.now (right (goal.at.write_blocks-requires c).In_default); operations_in_bounds = rw (← c.file_size-size.ensures) c.if-out-size.false }
 
 pub returns : goal.returns
 returns c =
     let operations = c.args.operations.now in
-    filled_done _ _ _ _ _ (write_fits operations (right (goal.at.returns c).In_default) (length c.args.out.now) (rw (← c.file_size_lem.ensures) c.if-out-size.false))
-    (rw (file_length operations) c.file_size_lem.ensures)
+    filled_done _ _ _ _ _ (write_fits operations (right (goal.at.returns c).In_default) (length c.args.out.now) (rw (← c.file_size-size.ensures) c.if-out-size.false))
+    (rw (file_length operations) c.file_size-size.ensures)
     c.write_blocks.ensures

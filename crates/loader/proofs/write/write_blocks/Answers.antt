@@ -19,20 +19,20 @@ pub write_block-requires : goal.write_block-requires
 write_block-requires c =
     let ops = c.args.operations.now in
     rw (part_is ops c.loop-k.k c.part_size.result c.part_size.ensures)
-    (omega arith, (part_most ops c.loop-k.k, simp (length-take, length-drop) (omega arith)))
+    (record { k_bound = omega arith; body_len_bound = part_most ops c.loop-k.k; in_bounds = simp (length-take, length-drop) (omega arith) })
 
 pub loop-k-preserved : goal.loop-k-preserved
 loop-k-preserved c =
     let ops = c.args.operations.now in
     let k = c.loop-k.k in
     let out = c.loop-k.out in
-    let last = c.write_block.new.1.1.0 in (
+    let last = c.write_block.new.out in (
       refl,
       omega arith,
       rw add-one
           (over_more (file_first ops k) (block_of k (part_at ops k)) c.args.out.now out last (512 * k) (sym (file_first_length ops k)) c.loop-k.invariant.2
           (rw (part_is ops k c.part_size.result c.part_size.ensures) at c.write_block.ensures)),
-      same_len_mid (512 * k) (length out - 512 * k) out last c.write_block.auto.1.1.0 ∙ c.loop-k.invariant.3,
+      same_len_mid (512 * k) (length out - 512 * k) out last c.write_block.auto.out ∙ c.loop-k.invariant.3,
     )
 
 pub returns : goal.returns

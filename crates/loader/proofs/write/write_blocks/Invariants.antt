@@ -13,7 +13,7 @@ use Rattle.program.proofs.Files.{part_most, part_is, file_first_length}
 use Rattle.loader.proofs.write.write_blocks.Given as goal
 
 abbrev pub invariant-loop-k : goal.invariant-loop-k
-invariant-loop-k l = (l.initial.out ≡ blocks_for (length l.operations)) × (l.k ≤ l.initial.out) × (l.out ≡ over (file_first l.operations l.k) l.count) × (length l.out ≡ length l.count)
+invariant-loop-k l = (l.count ≡ blocks_for (length l.operations)) × (l.k ≤ l.count) × (l.out ≡ over (file_first l.operations l.k) l.initial.out) × (length l.out ≡ length l.initial.out)
 
 abbrev pub decreases-loop-k : goal.decreases-loop-k
-decreases-loop-k l = l.initial.out - l.k
+decreases-loop-k l = l.count - l.k

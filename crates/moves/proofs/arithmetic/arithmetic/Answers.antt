@@ -87,8 +87,8 @@ returns c =
     let a = c.args in
     let t = c.target-t.ensures.value in
     λ settings mode memory.
-    shifts settings mode a.code.now a.at a.acc.now a.w.now memory (small (goal.at.returns c).After-target-t) c.shift_by_lem.result (is-shift (goal.at.returns c).Else-which-eq10)
-    (rw (value (goal.at.returns c).After-v-1, t, c.register.ensures, c.word.ensures) at c.shift_by_lem.ensures)
+    shifts settings mode a.code.now a.at a.acc.now a.w.now memory (small (goal.at.returns c).After-target-t) c.shift_by.result (is-shift (goal.at.returns c).Else-which-eq10)
+    (rw (value (goal.at.returns c).After-v-1, t, c.register.ensures, c.word.ensures) at c.shift_by.ensures)
 
 pub opposite-requires : goal.opposite-requires
 opposite-requires c = value-within (goal.at.opposite-requires c).After-v-1

@@ -18,14 +18,14 @@ allowed : (c : After-is_allowed) → shift_allowed (signed_of 16 c.args.x) ≡ c
 allowed c = sym (rw (by c.before) at c.is_allowed.ensures)
 
 pub returns-then-not-is_allowed : goal.returns-then-not-is_allowed
-returns-then-not-is_allowed c = rw (allowed (goal.at.returns-then-not-is_allowed c).After-is_allowed ∙ not-true c.is_allowed.result c.if-not-is_allowed.true) c.trapped.ensures
+returns-then-not-is_allowed c = rw (allowed (goal.at.returns-then-not-is_allowed c).After-is_allowed ∙ c.if-not-is_allowed.true) c.trapped.ensures
 
 pub shift-requires : goal.shift-requires
 shift-requires c =
-    record { v_value = rw (to_z-of_z c.ranges.v) c.requires; n_value = sym c.is_allowed.ensures ∙ not-false c.is_allowed.result c.if-not-is_allowed.false }
+    record { v_value = rw (to_z-of_z c.ranges.v) c.requires; n_value = sym c.is_allowed.ensures ∙ c.if-not-is_allowed.false }
 
 pub returns : goal.returns
 returns c =
     let r : to_z w64 (of_z w64 c.shift.result) ≡ c.shift.result = search rules in
-    rw (allowed (goal.at.returns c).After-is_allowed ∙ not-false c.is_allowed.result c.if-not-is_allowed.false)
+    rw (allowed (goal.at.returns c).After-is_allowed ∙ c.if-not-is_allowed.false)
     (rw (r, c.shift.ensures, by (goal.at.returns c).After-signed-n, to_z-of_z c.ranges.v) at c.result.ensures)

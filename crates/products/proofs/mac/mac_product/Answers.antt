@@ -17,7 +17,4 @@ returns c =
     let back : to_z w64 (of_z w64 c.product.result) ≡ c.product.result = search rules in
     let first : c.factor.result.word < 2 ^ 16 = search rules in
     let second : c.factor-2.result.word < 2 ^ 16 = search rules in
-    rw (back, c.product.ensures) (
-      rw (c.factor-2.ensures, c.factor.ensures, c.of-taken.ensures, c.register-n.ensures, c.word-2.ensures, c.register-m.ensures, c.word.ensures),
-      product_size c.of-taken.result.integer c.factor.result c.factor-2.result first second,
-    )
+    rw (back, c.product.ensures) (record { value = rw (c.factor-2.ensures, c.factor.ensures, c.of-taken.ensures, c.register-n.ensures, c.word-2.ensures, c.register-m.ensures, c.word.ensures); result_bound = product_size c.of-taken.result.integer c.factor.result c.factor-2.result first second })

@@ -6,4 +6,4 @@ use Rattle.sequencer.proofs.limits.limit_of.Goals as goal
 pub returns : goal.returns
 returns c =
     let high = c.high_of-high in
-    rw (gave high.ensures high.type_inv, ← c.outside_trap_lem.ensures, ← c.overflow_trap-overflow.ensures, ← c.saturates-on.ensures)
+    rw (gave high.ensures high.type_inv, ← c.outside_trap-outside.ensures, ← c.overflow_trap-overflow.ensures, ← c.saturates-on.ensures)

@@ -25,7 +25,7 @@ returns-then-not-has_left c =
           let test = left.ensures (limit_bits (mode_of mode) (target_of a.t)) (high ∙ ap (λ (x : Limit). x.high) known) in
           rw r
           (settles_inside traps mode a.t c.requires.t_bound a.r a.acc.now a.oflags.now a.sflags.now c.requires.twos by.result known
-          c.requires.r_value (sym (rw r at test) ∙ not-true left.result c.if-not-has_left.true)));
+          c.requires.r_value (sym (rw r at test) ∙ c.if-not-has_left.true)));
       twos_2 = twos_written c.requires.twos a.t _ _;
     }
 
@@ -46,7 +46,7 @@ returns c =
           rw v
           (settles_left traps mode a.t c.requires.t_bound a.r a.acc.now a.oflags.now a.sflags.now c.requires.twos by.result known
           kept.result c.overflow-o.result c.first_trap.result
-          (sym (rw r at test) ∙ not-false left.result c.if-not-has_left.false)
+          (sym (rw r at test) ∙ c.if-not-has_left.false)
           (rw r at (kept.ensures (limit_bits (mode_of mode) (target_of a.t)) is-high))
           (rw v at c.overflow-o.ensures)
           c.first_trap.ensures));

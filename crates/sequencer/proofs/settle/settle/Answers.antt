@@ -13,13 +13,13 @@ returns-then-not-overflow c =
       by_index = (λ traps mode e.
           rw r
           (settles_small traps mode a.t c.requires.t_bound a.r a.acc.now a.oflags.now a.sflags.now c.requires.twos
-          (sym (rw r at c.overflow.ensures) ∙ not-true c.overflow.result c.if-not-overflow.true)));
+          (sym (rw r at c.overflow.ensures) ∙ c.if-not-overflow.true)));
       twos_2 = twos_written c.requires.twos a.t _ _;
     }
 
 pub limit-requires : goal.limit-requires
 limit-requires c =
-    record { t_bound = c.requires.t_bound; twos = c.requires.twos; r_value = sym c.overflow.ensures ∙ not-false c.overflow.result c.if-not-overflow.false }
+    record { t_bound = c.requires.t_bound; twos = c.requires.twos; r_value = sym c.overflow.ensures ∙ c.if-not-overflow.false }
 
 pub returns : goal.returns
 returns c =

@@ -11,5 +11,5 @@ pub returns : goal.returns
 returns c =
     let args = c.args in
     let memory = args.memory.now in
-    back_rest memory c.copy.new.1.0 args.first.0
+    back_rest memory c.copy.new.to args.first.0
     ∙ ap (λ (l : List _). take args.first.0 memory ++ l) (c.copy.ensures ∙ ap (over args.words.now) (part_rest memory args.first.0))

@@ -37,11 +37,11 @@ returns-then-not-is_enough c =
     let none : refusal (first_before (bags_of d) x).state ≡ 0 = ap refusal same ∙ sym c.refusal-refused.ensures ∙ c.if-refused-ne0.false in
     service_refused args.file.now args.settings x d args.endings.now args.steps.now 8
     (refused_short args.file.now args.settings x d args.endings.now args.steps.now none
-    (sym c.is_enough.ensures ∙ not-true _ c.if-not-is_enough.true))
+    (sym c.is_enough.ensures ∙ c.if-not-is_enough.true))
     (λ e. absurd (omega (arith, e)))
 
 pub serve_bags-after-requires : goal.serve_bags-after-requires
-serve_bags-after-requires c = sym c.is_enough.ensures ∙ not-false _ c.if-not-is_enough.false
+serve_bags-after-requires c = sym c.is_enough.ensures ∙ c.if-not-is_enough.false
 
 pub returns : goal.returns
 returns c =
@@ -54,5 +54,5 @@ returns c =
     let ram : AreWords args.memory.now = λ i. omega (arith, c.slice_known-1.given i) in
     let words : AreWords args.words.now = λ i. omega (arith, c.shared_slice_known-4-1.given i) in
     service_served args.file.now args.settings x d args.endings.now args.steps.now none
-    (sym c.is_enough.ensures ∙ not-false _ c.if-not-is_enough.false) (typed_state args.state _ c.well_formed.1.1.0) ram words _ _ _
+    (sym c.is_enough.ensures ∙ c.if-not-is_enough.false) (typed_state args.state _ c.well_formed.1.1.0) ram words _ _ _
     c.serve_bags-after.ensures

@@ -71,7 +71,7 @@ loop-i-preserved c =
     let i : ℕ = c.loop-i.i in
     let below : i < length args.budgets.now = c.loop-i-test.true in
     let from : ℕ = i * args.window.size in
-    let is : result_of c.serve_bag-outcome.result c.serve_bag-outcome.new.1.1.1.0
+    let is : result_of c.serve_bag-outcome.result c.serve_bag-outcome.new.memory
     ≡ (call_served args.file.now args.settings (bag_at d i) (record { state = c.loop-i.current; memory = c.loop-i.memory })).result =
     c.serve_bag-outcome.ensures
     ∙ ap
@@ -82,7 +82,7 @@ loop-i-preserved c =
     rw c.code.ensures
     (along_more args.file.now args.settings (record { state = args.state; memory = args.memory.now }) d args.endings.now args.steps.now i
     (record { state = c.loop-i.current; memory = c.loop-i.memory }) c.loop-i.endings c.loop-i.steps c.loop-i.invariant below enough
-    c.serve_bag-outcome.result c.serve_bag-outcome.new.1.1.1.0 is c.serve_bag-outcome.auto.1.1.1.0)
+    c.serve_bag-outcome.result c.serve_bag-outcome.new.memory is c.serve_bag-outcome.auto.memory)
 
 pub bounds-restarts-i : goal.bounds-restarts-i
 bounds-restarts-i c =

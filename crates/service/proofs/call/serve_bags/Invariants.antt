@@ -15,9 +15,9 @@ use Rattle.service.proofs.call.serve_bags.Given as goal
 
 abbrev pub invariant-loop-i : goal.invariant-loop-i
 invariant-loop-i l =
-    Along l.file l.settings (record { state = l.initial.current; memory = l.budgets })
-    (record { window = record { first = l.initial.endings; size = l.initial.steps }; budgets = l.restarts; restarts = l.words; words = l.first }) l.size l.initial.memory l.i
+    Along l.file l.settings (record { state = l.initial.current; memory = l.initial.memory })
+    (record { window = record { first = l.first; size = l.size }; budgets = l.budgets; restarts = l.restarts; words = l.words }) l.initial.endings l.initial.steps l.i
     (record { state = l.current; memory = l.memory }) l.endings l.steps
 
 abbrev pub decreases-loop-i : goal.decreases-loop-i
-decreases-loop-i l = length l.restarts - l.i
+decreases-loop-i l = length l.budgets - l.i

@@ -10,4 +10,4 @@ returns-then-reversed-eq15 c = rw (eq-eqb _ _ c.if-reversed-eq15.true)
 
 pub returns-else-reversed-eq15 : goal.returns-else-reversed-eq15
 unfolding is_reversed
-returns-else-reversed-eq15 c = rw (ne_eqb _ _ c.if-reversed-eq15.false, c.is_power_lem.ensures)
+returns-else-reversed-eq15 c = rw (ne_eqb _ _ c.if-reversed-eq15.false, c.is_power.ensures)

@@ -80,7 +80,7 @@ abbrev result : tie.After-accumulated → Carry
 result c = record { trap = 0; writes = true; r = c.accumulated.result }
 
 carried : (c : After-accumulated-r) → let a = c.args in
-    Carries a.settings a.f.mode a.code.now a.at a.acc.now a.w.now a.memory.now c.arrive_pair.new.1.1.1.1.0 a.memory.now (result c)
+    Carries a.settings a.f.mode a.code.now a.at a.acc.now a.w.now a.memory.now c.arrive_pair.new.w a.memory.now (result c)
 carried c =
     let a = c.args in
     let acc = a.acc.now in
@@ -104,7 +104,7 @@ pub returns : goal.returns
 returns c =
     let settled = c.settle-trap in
     let a = c.args in
-    let w = c.arrive_pair.new.1.1.1.1.0 in
+    let w = c.arrive_pair.new.w in
     let acc = settled.new.1.1.1.0 in
     let oflags = settled.new.1.1.1.1.0 in
     let sflags = settled.new.1.1.1.1.1.0 in

@@ -12,7 +12,7 @@ use native.Mathlib.Omega.{arith}
 use Rattle.stream.proofs.memory.fill.Given as goal
 
 abbrev pub invariant-loop-i : goal.invariant-loop-i
-invariant-loop-i l = (l.i ≤ length l.memory) × (l.memory ≡ memory_in l.initial.memory l.i ++ drop l.i l.bytes) × (length l.memory ≡ length l.bytes)
+invariant-loop-i l = (l.i ≤ length l.memory) × (l.memory ≡ memory_in l.bytes l.i ++ drop l.i l.initial.memory) × (length l.memory ≡ length l.initial.memory)
 
 abbrev pub decreases-loop-i : goal.decreases-loop-i
 decreases-loop-i l = length l.memory - l.i

@@ -20,4 +20,4 @@ overflow_add-result c = search rules
 -- src/buffer.rt:19:1
 pub returns : goal.returns
 returns c =
-    copied c.args.at c.args.text.now c.args.out.now c.copy.new.1.0 c.requires c.copy.ensures
+    copied c.args.at c.args.text.now c.args.out.now c.copy.new.to c.requires c.copy.ensures

@@ -10,7 +10,7 @@ use Rattle.text.proofs.Fields.{fields_then, fields_end}
 use Rattle.text.proofs.field.append_number_fields.Goals as goal
 
 pub loop-i-init : goal.loop-i-init
-loop-i-init c = (omega arith, no_text c.append-past.result c.append-past.new.0 (place_in c.append-past.ensures))
+loop-i-init c = (omega arith, no_text c.append-past.result c.append-past.new.out (place_in c.append-past.ensures))
 
 pub append_long_field-past-requires : goal.append_long_field-past-requires
 append_long_field-past-requires c = omega (arith, c.append-past.ensures.place, c.loop-i.invariant.1.place, c.loop-i.invariant.1.within)

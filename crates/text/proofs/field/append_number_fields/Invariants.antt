@@ -10,7 +10,7 @@ use Rattle.text.proofs.Fields.{fields_then, fields_end}
 use Rattle.text.proofs.field.append_number_fields.Given as goal
 
 abbrev pub invariant-loop-i : goal.invariant-loop-i
-invariant-loop-i l = (l.i ≤ length l.initial.out) × Appended l.initial.past (21 * l.i) (fields_of number_text (take l.i l.initial.out)) l.at l.past l.out
+invariant-loop-i l = (l.i ≤ length l.numbers) × Appended l.initial.past (21 * l.i) (fields_of number_text (take l.i l.numbers)) l.initial.out l.past l.out
 
 abbrev pub decreases-loop-i : goal.decreases-loop-i
-decreases-loop-i l = length l.initial.out - l.i
+decreases-loop-i l = length l.numbers - l.i

@@ -31,7 +31,7 @@ append-requires c = search rules
 -- src/text.rt:38:1
 pub returns : goal.returns
 returns c =
-    let text = c.put_digits-start.new.0 in
-    let size : length text ≡ 20 = c.put_digits-start.auto.0 in
+    let text = c.put_digits-start.new.text in
+    let size : length text ≡ 20 = c.put_digits-start.auto.text in
     let short : length (drop c.put_digits-start.result text) ≤ 20 - c.put_digits-start.result = simp length-drop (omega (arith, size)) in
     named c.append.ensures (take_all (20 - c.put_digits-start.result) (drop c.put_digits-start.result text) short ∙ c.put_digits-start.ensures.text_after) (number_most c.args.n)

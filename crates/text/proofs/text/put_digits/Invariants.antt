@@ -12,7 +12,7 @@ use Rattle.text.proofs.text.last_digit.Reads as last-digit-reads
 use Rattle.text.proofs.text.put_digits.Given as goal
 
 abbrev pub invariant-loop-left : goal.invariant-loop-left
-invariant-loop-left l = (length l.text ≡ 20) × (l.i < 20) × (number_text l.initial.text ≡ digits_before l.i l.left ++ drop l.i l.text)
+invariant-loop-left l = (length l.text ≡ 20) × (l.i < 20) × (number_text l.n ≡ digits_before l.i l.left ++ drop l.i l.text)
 
 abbrev pub decreases-loop-left : goal.decreases-loop-left
 decreases-loop-left l = l.i
