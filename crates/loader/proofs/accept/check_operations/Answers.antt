@@ -19,6 +19,7 @@ use Rattle.program.proofs.Roles.{placed_taken}
 use Rattle.program.proofs.Slices.{all_next}
 use borrow.Author.Rules.{rules}
 use Rattle.loader.proofs.accept.check_operations.Goals as goal
+use Rattle.loader.proofs.accept.check_operations.Goals.{then-placed, else-placed}
 
 -- with all operations listed placement is left
 placement_left : (layout : Layout) (s : List ℕ) (n i : ℕ) (placed : Bool) → i ≡ n → first_of (fields_refusal layout s) i ≡ 0
@@ -56,10 +57,10 @@ loop-i-preserved c =
     let next = all_next test i c.loop-i.placed (test i) c.loop-i.invariant.2 refl in (
       omega arith,
       first_more (fields_refusal args.layout args.s.now) i Accepted c.loop-i.invariant.1 refl (rw listed),
-      ⊎_elim
-          (λ w. rw (w.3, w.2.ensures, w.1.ensures, placed_taken args.layout args.s.now args.n i _ (omega arith) listed) (rw w.0.taken at next))
-          (λ w. rw (w.1, w.0.left) (rw w.0.left at next))
-          c.if-placed.branch,
+      elim c.if-placed.branch [
+        | then-placed w ↦ rw (w.placed-is, w.is_placed_as-placed.ensures, w.role_of.ensures, placed_taken args.layout args.s.now args.n i _ (omega arith) listed) (rw w.if-placed.true at next)
+        | else-placed w ↦ rw (w.placed-is, w.if-placed.false) (rw w.if-placed.false at next)
+      ],
     )
 
 pub returns-then-placed-2 : goal.returns-then-placed-2
