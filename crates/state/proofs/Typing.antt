@@ -5,7 +5,7 @@ use denote.Shadow.{shadow}
 use denote.Struct.Declared.{row}
 use mir.Syntax.{w16}
 use mir.Val.{Val}
-use borrow.Author.Rules.{length_unmapped, elem_fits_field}
+use borrow.Author.Rules.{elem_Fits}
 use Rattle.state.specs.Typed.{Typed}
 use Rattle.state.specs.declared.state.State.{State}
 use Rattle.state.specs.contracts.state.State.{the_type}
@@ -16,8 +16,8 @@ typed_state s us h =
     let fields = h.1.1.0.1.1 in
     let slots = fields.1.1.1.1.0.1.1 in
     record {
-      registers = length_unmapped ℕ core.w 14 fields.0.1.0.1;
-      words = λ i. (elem_fits_field w16 w16 core.w _ i fields.0.1.1 tt).fits;
-      starts = length_unmapped ℕ core.loops.starts 4 slots.0.1.0.1;
-      passes = length_unmapped ℕ core.loops.passes 4 slots.1.0.1.0.1;
+      registers = fields.0.1.0.1;
+      words = λ i. (elem_Fits w16 w16 core.w _ i fields.0.1.1 tt).fits;
+      starts = slots.0.1.0.1;
+      passes = slots.1.0.1.0.1;
     }

@@ -7,6 +7,7 @@ use Rattle.program.specs.File.{program_of}
 use Rattle.state.specs.Accept.{around_in}
 use Rattle.state.proofs.Around.{around_more, around_same}
 use Rattle.state.proofs.accept.around.Goals as goal
+use Rattle.state.proofs.accept.around.Goals.{then-is_around, else-is_around}
 
 pub loop-d-init : goal.loop-d-init
 loop-d-init c = (omega arith, omega arith, refl)
@@ -19,10 +20,10 @@ loop-d-preserved c =
     let loop = c.loop-d in
     let args = c.args in
     let p = program_of args.file.now in
-    ⊎_elim
-    (λ w. (omega arith, omega arith, w.1 ∙ around_more p args.pc loop.d loop.count loop.invariant.2 (sym c.is_around.ensures ∙ w.0.taken)))
-    (λ w. (omega arith, omega arith, w.1 ∙ around_same p args.pc loop.d loop.count loop.invariant.2 (sym c.is_around.ensures ∙ w.0.left)))
-    c.if-is_around.branch
+    elim c.if-is_around.branch [
+      | then-is_around w ↦ (omega arith, omega arith, w.count-is ∙ around_more p args.pc loop.d loop.count loop.invariant.2 (sym c.is_around.ensures ∙ w.if-is_around.true))
+      | else-is_around w ↦ (omega arith, omega arith, w.count-is ∙ around_same p args.pc loop.d loop.count loop.invariant.2 (sym c.is_around.ensures ∙ w.if-is_around.false))
+    ]
 
 pub returns : goal.returns
 returns c =

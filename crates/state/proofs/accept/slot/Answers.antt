@@ -9,6 +9,6 @@ use Rattle.state.proofs.accept.slot.Goals as goal
 pub returns-else-k-lt4 : goal.returns-else-k-lt4
 returns-else-k-lt4 c =
     let args = c.args in
-    let long : length args.t1 ≡ 4 = search rules in
-    let past : length args.t1 ≤ args.k = omega (arith, c.if-k-lt4.false) in
-    sym (get_or-eq_default args.t1 0 past)
+    let long : length args.starts ≡ 4 = search rules in
+    let past : length args.starts ≤ args.k = omega (arith, c.if-k-lt4.false) in
+    sym (get_or-eq_default args.starts 0 past)

@@ -7,6 +7,7 @@ use Rattle.program.specs.File.{program_of}
 use Rattle.state.specs.Accept.{around_in, stand_in}
 use Rattle.state.proofs.Around.{around_more, around_same, stand_more, stand_same}
 use Rattle.state.proofs.accept.stand.Goals as goal
+use Rattle.state.proofs.accept.stand.Goals.{then-is_around, else-is_around}
 
 pub loop-d-init : goal.loop-d-init
 loop-d-init c = (omega arith, omega arith, refl, refl)
@@ -20,22 +21,22 @@ loop-d-preserved c =
     let args = c.args in
     let p = program_of args.file.now in
     let opens = c.is_around.ensures in
-    ⊎_elim
-    (λ w.
-    let yes = sym opens ∙ w.0.taken in (
-      omega arith,
-      omega arith,
-      w.3 ∙ around_more p args.pc loop.d loop.count loop.invariant.2 yes,
-      w.2 ∙ rw w.1.ensures (stand_more p args.pc loop.d loop.count loop.invariant.2 args.starts loop.good loop.invariant.3 yes),
-    ))
-    (λ w.
-    let no = sym opens ∙ w.0.left in (
-      omega arith,
-      omega arith,
-      w.2 ∙ around_same p args.pc loop.d loop.count loop.invariant.2 no,
-      w.1 ∙ stand_same p args.pc loop.d loop.count loop.invariant.2 args.starts loop.good loop.invariant.3 no,
-    ))
-    c.if-is_around.branch
+    elim c.if-is_around.branch [
+      | then-is_around w ↦
+          let yes = sym opens ∙ w.if-is_around.true in (
+            omega arith,
+            omega arith,
+            w.count-is ∙ around_more p args.pc loop.d loop.count loop.invariant.2 yes,
+            w.good-is ∙ rw w.slot.ensures (stand_more p args.pc loop.d loop.count loop.invariant.2 args.starts loop.good loop.invariant.3 yes),
+          )
+      | else-is_around w ↦
+          let no = sym opens ∙ w.if-is_around.false in (
+            omega arith,
+            omega arith,
+            w.count-is ∙ around_same p args.pc loop.d loop.count loop.invariant.2 no,
+            w.good-is ∙ stand_same p args.pc loop.d loop.count loop.invariant.2 args.starts loop.good loop.invariant.3 no,
+          )
+    ]
 
 pub returns : goal.returns
 returns c =
