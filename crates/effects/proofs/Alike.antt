@@ -1,7 +1,7 @@
 -- What a work depends on: of two cores with the same registers and as many loops, whose accumulators are alike, every operation makes works that are alike.
 -- A work reads neither pc, repeat left, the mode word nor a flag. Assumes nothing.
 use Prim.Native.Nat.{ℕ}
-use mathlib.Core.Bool.{Bool, true, false, not, ◌||◌, or_true}
+use mathlib.Core.Bool.{Bool, true, false, not, ◌||◌, or-true}
 use mathlib.Core.List.{List}
 use mathlib.Core.Logic.{◌⊎◌, inl, inr}
 use mathlib.Core.Path.{◌≡◌, refl, sym, ap}
@@ -99,7 +99,7 @@ module _ (R : ℤ → ℤ → Type 0) (law : Congruence R) where
 
   whole_mac : (k : MacClass) → not (eqb (write_back_byte k.back) 0) ≡ true → reads_whole (MacOperation k) ≡ true
   unfolding reads_whole encode_of
-  whole_mac k e = rw (e, or_true (eqb (action_byte k.action) 15), or_true (eqb (action_byte k.action) 14), or_true (eqb (action_byte k.action) 11))
+  whole_mac k e = rw (e, or-true (eqb (action_byte k.action) 15), or-true (eqb (action_byte k.action) 14), or-true (eqb (action_byte k.action) 11))
 
   -- ---- two cores
 

@@ -1,7 +1,7 @@
 -- Runs whose sums overflow, against the ledger that goes on: what is equal, what differs, and why each premise is there. Each value is worked out by hand.
 -- Assumes nothing.
 use Prim.Native.Nat.{ℕ, ◌+◌, ◌*◌, ◌-◌, ◌^◌}
-use mathlib.Core.Bool.{true, false, ◌||◌, or_true}
+use mathlib.Core.Bool.{true, false, ◌||◌, or-true}
 use mathlib.Core.List.{List, [], ◌∷◌}
 use mathlib.Core.Path.{◌≡◌, refl}
 use lib.IntN.{pos}
@@ -299,7 +299,7 @@ backed k back =
 -- they are barred with one to W13 or to memory, and are not without one
 macs_barred : (k : MacClass) → (is_barred (backed k ToRegister) ≡ true) × (is_barred (backed k ToMemory) ≡ true)
 unfolding is_barred encode_of
-macs_barred k = let kind = is_barred_kind (action_byte k.action) in (or_true kind, or_true kind)
+macs_barred k = let kind = is_barred_kind (action_byte k.action) in (or-true kind, or-true kind)
 
 macs_free : (k : MacClass) → is_barred (backed k NoBack) ≡ false
 unfolding is_barred encode_of
