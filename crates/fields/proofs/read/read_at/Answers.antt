@@ -21,7 +21,7 @@ word : (c : Then-has) → let a = c.args in let i = c.aligned_word-i.result.0 in
 word c =
     let number = c.aligned_word-i in
     let a = c.args in
-    has_word a.region a.a.0 number.result.0 number.ensures.0 (sym c.has.ensures ∙ c.if-has.true)
+    has_word a.region a.a.0 number.result.0 number.ensures.self_value (sym c.has.ensures ∙ c.if-has.true)
 
 pub offset_bounds-memory-at : goal.offset_bounds-memory-at
 offset_bounds-memory-at c =
