@@ -43,7 +43,7 @@ fn opposite(x: i64) -> i64
 // An accumulator shifted by the signed value of a word; trap 3 beyond 16.
 fn shift_by(v: i64, x: u16) -> Carry
     requires { is_accumulator v ≡ true }
-    ensures { result ≡ cond (shift_allowed (signed_of 16 x)) (record { trap = 0; writes = true; result = shift_of v (signed_of 16 x) }) (record { trap = 3; writes = false; result = pos 0 }) }
+    ensures { result ≡ cond (shift_allowed (signed_of 16 x)) (record { trap = 0; writes = true; r = shift_of v (signed_of 16 x) }) (record { trap = 3; writes = false; r = pos 0 }) }
 {
     let n = signed(x);
     if !is_allowed(n) {

@@ -40,4 +40,4 @@ returns c =
     let sums = rw (accumulator_kept s.core.a stands.a, accumulator_kept s.core.b stands.b) at c.sums_of-acc.ensures in
     let ran = c.run_windows-r.ensures in
     let same = state_runs (program_of file) c.args.settings s c.lasts_of-lasts.result c.args.memory.now sums c.args.budget in
-    record { memory_after = rw (c.Ending-of.ensures, c.state_of-last.ensures) (rw c.flow_of-flow.ensures at ran.0 ∙ same); words_unchanged = ran.1 }
+    record { memory_after = rw (c.ending_of.ensures, c.state_of-last.ensures) (rw c.flow_of-flow.ensures at ran.0 ∙ same); words_unchanged = ran.1 }

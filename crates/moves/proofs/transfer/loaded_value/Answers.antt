@@ -19,8 +19,8 @@ word c = search rules
 value : (c : After-signed) → to_z w64 (of_z w64 c.signed.result) ≡ signed_of 16 c.args.x
 value c = gave c.signed.ensures c.signed.type_inv
 
-by : (c : After-shift_of) → to_z w64 (of_z w64 c.Shift-of.result) ≡ byte_shift c.args.b2
-by c = gave c.Shift-of.ensures c.Shift-of.type_inv
+by : (c : After-shift_of) → to_z w64 (of_z w64 c.shift_of.result) ≡ byte_shift c.args.b2
+by c = gave c.shift_of.ensures c.shift_of.type_inv
 
 pub overflow_mul-signed : goal.overflow_mul-signed
 overflow_mul-signed c = rw (value (goal.at.overflow_mul-signed c).After-signed) (fits_abs _ (word_size _ (word (goal.at.overflow_mul-signed c).After-signed)) (lit< tt))

@@ -11,8 +11,8 @@ use borrow.Author.Rules.{rules}
 use Rattle.moves.proofs.transfer.stored_word.Goals as goal
 use Rattle.moves.proofs.transfer.stored_word.Goals.{After-shift_of}
 
-by : (c : After-shift_of) → to_z w64 (of_z w64 c.Shift-of.result) ≡ byte_shift c.args.b2
-by c = gave c.Shift-of.ensures c.Shift-of.type_inv
+by : (c : After-shift_of) → to_z w64 (of_z w64 c.shift_of.result) ≡ byte_shift c.args.b2
+by c = gave c.shift_of.ensures c.shift_of.type_inv
 
 pub shift-requires : goal.shift-requires
 shift-requires c =

@@ -42,4 +42,4 @@ returns c =
     let exact = rw (v, t.ensures.value, product_kept _ p.ensures.result_bound, c.kind.ensures) at c.mac_result.ensures.else_value in
     mac_carries a.settings a.mode acc w memory a.f c.requires.encoded c.requires.at_bound f free
     c.mac_result.result p.result p.ensures.value (c.mac_registers.ensures memory free f)
-    (written.0 a.settings w f.ba) (written.1 a.settings w f.ba) c.mac_result.ensures.trap_value exact
+    (written.w_after a.settings w f.ba) (written.memory_after a.settings w f.ba) c.mac_result.ensures.trap_value exact

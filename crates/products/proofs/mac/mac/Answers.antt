@@ -5,7 +5,7 @@ use Rattle.products.proofs.mac.mac.Goals as goal
 
 pub pair-requires : goal.pair-requires
 pair-requires c =
-    (c.requires.encoded, (sym c.is_pair.ensures ∙ c.if-is_pair.true, c.requires.1.1))
+    record { encoded = c.requires.encoded; at_value = sym c.is_pair.ensures ∙ c.if-is_pair.true; xwords_in_bounds = c.requires.xwords_in_bounds; accumulators = c.requires.accumulators }
 
 pub returns-then-trap-ne0 : goal.returns-then-trap-ne0
 returns-then-trap-ne0 c =

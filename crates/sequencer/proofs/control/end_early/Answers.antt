@@ -1,16 +1,18 @@
 -- `control::end_early` meets its contract: fewer passes, no fewer, or no loop. Assumes nothing.
 use mathlib.Core.Bool.{cond}
-use mathlib.Core.Logic.{⊎_elim}
 use mathlib.Core.Path.{◌≡◌}
 use lib.ListN.{get_or}
 use Rattle.machine.specs.Control.{is_near_last}
 use Rattle.sequencer.proofs.Flows.{fewer, no_fewer, no_loop}
 use borrow.Author.Rules.{rules}
 use Rattle.sequencer.proofs.control.end_early.Goals as goal
-use Rattle.sequencer.proofs.control.end_early.Goals.{Joined-pc-last}
+use Rattle.sequencer.proofs.control.end_early.Goals.{Joined-pc-last, then-pc-last, else-pc-last}
 
 near : (c : Joined-pc-last) → c.if-pc-last.most ≡ cond (is_near_last c.args.f.pc (get_or c.args.lasts.now c.args.f.depth 0)) 2 1
-near c = ⊎_elim (λ way. rw way.0.taken way.1) (λ way. rw way.0.left way.1) c.if-pc-last.branch
+near c = elim c.if-pc-last.branch [
+  | then-pc-last w ↦ rw w.if-pc-last.true w.most-is
+  | else-pc-last w ↦ rw w.if-pc-last.false w.most-is
+]
 
 pub returns-then-most-more : goal.returns-then-most-more
 returns-then-most-more c =

@@ -17,7 +17,7 @@ unfolding has_left
 returns-then-not-has_left c =
     let a = c.args in
     let by = c.at-by in
-    let left = c.Has-left in
+    let left = c.has_left in
     let r = to_z-of_z c.ranges.r in
     let high : to_z w64 (of_z w64 by.result.high) ≡ by.result.high = search rules in record {
       by_index = (λ traps mode e.
@@ -34,7 +34,7 @@ unfolding has_left
 returns c =
     let a = c.args in
     let by = c.at-by in
-    let left = c.Has-left in
+    let left = c.has_left in
     let kept = c.kept-v in
     let r = to_z-of_z c.ranges.r in
     let high : to_z w64 (of_z w64 by.result.high) ≡ by.result.high = search rules in
