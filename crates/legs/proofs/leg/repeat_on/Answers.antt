@@ -20,30 +20,30 @@ overflow_sub-at c = c.requires.first_le_pc
 pub overflow_mul-at : goal.overflow_mul-at
 overflow_mul-at c =
     let pre = c.requires in
-    omega (arith, pre.1.1.1.1.1.0, pre.0.window.inside, pre.0.window.most)
+    omega (arith, pre.pc_bound, pre.known.window.inside, pre.known.window.most)
 
 pub loop-settings-init : goal.loop-settings-init
 loop-settings-init c =
     let pre = c.requires in
-    ((λ p window stood. way_begins p _ _ _ _ _ (omega (arith, pre.1.1.0)) stood), pre.1.0, pre.1.1.0, pre.1.1.1.0, refl)
+    ((λ p window stood. way_begins p _ _ _ _ _ (omega (arith, pre.steps_lt_budget)) stood), pre.limits_value, pre.steps_lt_budget, pre.lt_repeat, refl)
 
 pub step_pair-r-requires : goal.step_pair-r-requires
 step_pair-r-requires c =
     let pre = c.requires in
     let a = c.args in
     let inv = c.loop-settings.invariant in
-    let low = rw (sym inv.4) at pre.1.1.1.1.0 in
-    let high = rw (sym inv.4) at pre.1.1.1.1.1.0 in
-    let known = pre.0 in
-    let way = inv.0 known.program known.window known.stood in record { encoded = rw inv.4 at (encoded way known.window low high); at_value = pre.1.1.1.1.1.1; xwords_in_bounds = way.part; limits_value = inv.1; accumulators = accumulators way known.window low high; twos = way.twos; lt_repeat = inv.3 }
+    let low = rw (sym inv.4) at pre.first_le_pc in
+    let high = rw (sym inv.4) at pre.pc_bound in
+    let known = pre.known in
+    let way = inv.0 known.program known.window known.stood in record { encoded = rw inv.4 at (encoded way known.window low high); at_value = pre.first_value; xwords_in_bounds = way.part; limits_value = inv.1; accumulators = accumulators way known.window low high; twos = way.twos; lt_repeat = inv.3 }
 
 pub returns-then-not-r : goal.returns-then-not-r
 returns-then-not-r c =
     let pre = c.requires in
     let a = c.args in
     let inv = c.loop-settings.invariant in
-    let low = rw (sym inv.4) at pre.1.1.1.1.0 in
-    let high = rw (sym inv.4) at pre.1.1.1.1.1.0 in
+    let low = rw (sym inv.4) at pre.first_le_pc in
+    let high = rw (sym inv.4) at pre.pc_bound in
     let turn = c.step_pair-r in
     λ p window stood.
     let way = inv.0 p window stood in
@@ -59,8 +59,8 @@ returns-then-number-ne0 c =
     let pre = c.requires in
     let a = c.args in
     let inv = c.loop-settings.invariant in
-    let low = rw (sym inv.4) at pre.1.1.1.1.0 in
-    let high = rw (sym inv.4) at pre.1.1.1.1.1.0 in
+    let low = rw (sym inv.4) at pre.first_le_pc in
+    let high = rw (sym inv.4) at pre.pc_bound in
     let turn = c.step_pair-r in
     λ p window stood.
     let way = inv.0 p window stood in
@@ -72,8 +72,8 @@ returns-then-f-total c =
     let pre = c.requires in
     let a = c.args in
     let inv = c.loop-settings.invariant in
-    let low = rw (sym inv.4) at pre.1.1.1.1.0 in
-    let high = rw (sym inv.4) at pre.1.1.1.1.1.0 in
+    let low = rw (sym inv.4) at pre.first_le_pc in
+    let high = rw (sym inv.4) at pre.pc_bound in
     let turn = c.step_pair-r in
     λ p window stood.
     let way = inv.0 p window stood in
@@ -89,10 +89,10 @@ loop-settings-preserved c =
     let pre = c.requires in
     let a = c.args in
     let inv = c.loop-settings.invariant in
-    let low = rw (sym inv.4) at pre.1.1.1.1.0 in
-    let high = rw (sym inv.4) at pre.1.1.1.1.1.0 in
+    let low = rw (sym inv.4) at pre.first_le_pc in
+    let high = rw (sym inv.4) at pre.pc_bound in
     let turn = c.step_pair-r in
-    let known = pre.0 in
+    let known = pre.known in
     let known-way = inv.0 known.program known.window known.stood in
     let known-turns = turn.ensures.turns known.program a.starts.now a.passes.now a.lasts.now (subst (λ (n : ℕ). Follows known.program a.code.now (16 * (n - a.first)) c.loop-settings.f a.starts.now a.lasts.now) inv.4 (follows known-way known.window low high)) in
     let rest = neither (ltb turn.result.flow.repeat 2) (eqb (c.loop-settings.total + 1) a.budget) c.if-f-total.false in (

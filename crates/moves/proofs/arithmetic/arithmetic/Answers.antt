@@ -28,7 +28,7 @@ value-within : (c : After-v-1) → let v = get_or c.args.acc.now c.target-t.resu
     is_accumulator (to_z w64 (of_z w64 v)) ≡ true
 value-within c =
     let t = c.target-t in
-    rw (value c) (within c.args.acc.now t.result t.ensures.1 c.requires.accumulators)
+    rw (value c) (within c.args.acc.now t.result t.ensures.upper_bound c.requires.accumulators)
 
 other : (c : After-difference-arg-1) → let v = get_or c.args.acc.now (1 - c.target-t.result) (pos 0) in
     to_z w64 (of_z w64 v) ≡ v
@@ -39,7 +39,7 @@ is-shift : (c : Else-which-eq10) → let a = c.args in kind_in a.code.now a.at �
 is-shift c =
     let pre = c.requires in
     let k = c.kind-which.ensures in
-    last_kind _ pre.1.0 pre.1.1.0 (λ z. c.if-which-eq8.false (k ∙ z)) (λ z. c.if-which-eq9.false (k ∙ z)) (λ z. c.if-which-eq10.false (k ∙ z))
+    last_kind _ pre.bound pre.at_bound (λ z. c.if-which-eq8.false (k ∙ z)) (λ z. c.if-which-eq9.false (k ∙ z)) (λ z. c.if-which-eq10.false (k ∙ z))
 
 pub returns-then-which-eq8 : goal.returns-then-which-eq8
 returns-then-which-eq8 c =

@@ -22,8 +22,8 @@ use Rattle.moves.proofs.transfer.load_from.Goals.{After-load-read, After-loaded_
 pub load-read-requires : goal.load-read-requires
 load-read-requires c =
     let pre = c.requires in
-    let fields = load_fields pre.0 pre.1.0 in
-    record { encoded = pre.0; at_bound = fields.pointer; at_bound_2 = fields.form }
+    let fields = load_fields pre.encoded pre.at_value in
+    record { encoded = pre.encoded; at_bound = fields.pointer; at_bound_2 = fields.form }
 
 pub returns-then-trap-ne0 : goal.returns-then-trap-ne0
 returns-then-trap-ne0 c =

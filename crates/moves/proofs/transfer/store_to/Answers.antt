@@ -20,7 +20,7 @@ trap c =
 pub register-requires : goal.register-requires
 register-requires c =
     let pre = c.requires in
-    rw c.word-r.ensures (store_fields pre.0 pre.1.0).pointer
+    rw c.word-r.ensures (store_fields pre.encoded pre.at_value).pointer
 
 pub returns-then-trap-ne0 : goal.returns-then-trap-ne0
 returns-then-trap-ne0 c =
@@ -32,7 +32,7 @@ returns-then-trap-ne0 c =
 pub step_operand-requires : goal.step_operand-requires
 step_operand-requires c =
     let pre = c.requires in
-    let fields = store_fields pre.0 pre.1.0 in
+    let fields = store_fields pre.encoded pre.at_value in
     record { r_bound = rw c.word-r.ensures fields.pointer; form_bound = rw c.word-form.ensures fields.form }
 
 pub put_operand-requires : goal.put_operand-requires

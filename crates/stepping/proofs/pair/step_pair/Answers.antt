@@ -86,12 +86,12 @@ carried c =
     let acc = a.acc.now in
     let t = c.target-t in
     let p = c.mac_product-p in
-    let v = accumulator_kept _ (within acc t.result t.ensures.1 c.requires.accumulators) in
+    let v = accumulator_kept _ (within acc t.result t.ensures.upper_bound c.requires.accumulators) in
     let first = rw (c.word.ensures, c.word-2.ensures) at c.step_pointer.ensures in
     let second = rw (c.word-3.ensures, c.word-4.ensures) at c.step_pointer-2.ensures in
-    let exact = rw (v, t.ensures.0, product_kept _ p.ensures.1, c.kind.ensures) at c.accumulated-r.ensures in
+    let exact = rw (v, t.ensures.value, product_kept _ p.ensures.result_bound, c.kind.ensures) at c.accumulated-r.ensures in
     pair_carries a.settings a.f.mode acc a.w.now a.memory.now c.fetch_pair-fetched.result c.requires.encoded c.requires.at_value c.fetch_pair-fetched.ensures
-    c.if-blocked-ne0.false c.accumulated-r.result p.result p.ensures.0 first second c.arrive_pair.ensures exact
+    c.if-blocked-ne0.false c.accumulated-r.result p.result p.ensures.value first second c.arrive_pair.ensures exact
 
 pub settle-trap-requires : goal.settle-trap-requires
 settle-trap-requires c =

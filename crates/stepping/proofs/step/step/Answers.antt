@@ -6,13 +6,13 @@ use Rattle.stepping.proofs.step.step.Goals as goal
 pub step_work-requires : goal.step_work-requires
 step_work-requires c =
     let pre = c.requires in
-    (pre.0, (omega (arith, c.kind-which.ensures, c.if-which-lt19.true), pre.1))
+    (pre.encoded, (omega (arith, c.kind-which.ensures, c.if-which-lt19.true), pre.1))
 
 pub step_begin-requires : goal.step_begin-requires
 step_begin-requires c =
     let pre = c.requires in
     let kind = c.kind-which.ensures in
-    record { encoded = pre.0; bound = omega (arith, kind, c.if-which-lt19.false); at_bound = omega (arith, kind, c.if-which-lt23.true); standing = pre.1.1.1.1.1 }
+    record { encoded = pre.encoded; bound = omega (arith, kind, c.if-which-lt19.false); at_bound = omega (arith, kind, c.if-which-lt23.true); standing = pre.standing }
 
 pub returns-then-which-lt23 : goal.returns-then-which-lt23
 returns-then-which-lt23 c =
@@ -22,7 +22,7 @@ returns-then-which-lt23 c =
 pub step_control-requires : goal.step_control-requires
 step_control-requires c =
     let pre = c.requires in
-    record { encoded = pre.0; bound = omega (arith, c.kind-which.ensures, c.if-which-lt23.false); standing = pre.1.1.1.1.1 }
+    record { encoded = pre.encoded; bound = omega (arith, c.kind-which.ensures, c.if-which-lt23.false); standing = pre.standing }
 
 pub returns : goal.returns
 returns c =
