@@ -78,11 +78,15 @@ def turn_line(line, comment, names, pattern):
 
 def turn_rt(text, names, pattern):
     """Clauses and ghost lines, which hold antt; the code keeps its names."""
-    out = []
+    out, lent = [], True
     for line in text.split("\n"):
+        if re.match(r"\s*(pub )?fn ", line):
+            lent = True
+        if re.search(r"\bw: &\[u16", line):
+            lent = False
         if re.match(r"\s*(ghost use|requires|ensures|ghost)\b|\s*//", line):
             line = turn_line(line, "//", names, pattern)
-            line = line.replace("w.entry.now", "w.old").replace("w.exit.now", "w.new")
+            line = line.replace("w.entry.now", "w.old" if lent else "w.now").replace("w.exit.now", "w.new")
         out.append(line)
     return "\n".join(out)
 

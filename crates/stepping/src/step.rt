@@ -123,7 +123,7 @@ fn step_begin(
     requires bound { 18 < kind_in code.now at }
     requires at_bound { kind_in code.now at ≤ 22 }
     requires standing { Standing f starts.old lasts.old }
-    ensures { (p : List Operation) (settings : Settings) (acc : List ℤ) (oflags sflags : List Bool) (memory : List ℕ) → Twos acc oflags sflags → Follows p code.now at f starts.old lasts.old → Turns p settings f (record { w = w.old; acc = acc; oflags = oflags; sflags = sflags; starts = starts.old; passes = passes.old; lasts = lasts.old; memory = memory }) (record { w = w.old; acc = acc; oflags = oflags; sflags = sflags; starts = starts.new; passes = passes.new; lasts = lasts.new; memory = memory }) result }
+    ensures { (p : List Operation) (settings : Settings) (acc : List ℤ) (oflags sflags : List Bool) (memory : List ℕ) → Twos acc oflags sflags → Follows p code.now at f starts.old lasts.old → Turns p settings f (record { w = w.now; acc = acc; oflags = oflags; sflags = sflags; starts = starts.old; passes = passes.old; lasts = lasts.old; memory = memory }) (record { w = w.now; acc = acc; oflags = oflags; sflags = sflags; starts = starts.new; passes = passes.new; lasts = lasts.new; memory = memory }) result }
 {
     let which = kind(code, at);
     if (20 < which) & (f.depth == 4) {

@@ -76,8 +76,8 @@ accumulated-r-requires c =
     record { v_value = rw (accumulator_kept _ v) v; p_bound = rw (product_kept _ p.ensures.result_bound) p.ensures.result_bound }
 
 -- what the pair comes to
-abbrev result : tie.After-accumulated → Carry
-result c = record { trap = 0; writes = true; r = c.accumulated.result }
+abbrev result : After-accumulated-r → Carry
+result c = record { trap = 0; writes = true; r = c.accumulated-r.result }
 
 carried : (c : After-accumulated-r) → let a = c.args in
     Carries a.settings a.f.mode a.code.now a.at a.acc.now a.w.now a.memory.now c.arrive_pair.new.w a.memory.now (result c)
@@ -105,9 +105,9 @@ returns c =
     let settled = c.settle-trap in
     let a = c.args in
     let w = c.arrive_pair.new.w in
-    let acc = settled.new.1.1.1.0 in
-    let oflags = settled.new.1.1.1.1.0 in
-    let sflags = settled.new.1.1.1.1.1.0 in
+    let acc = settled.new.acc in
+    let oflags = settled.new.oflags in
+    let sflags = settled.new.sflags in
     let r : to_z w64 (of_z w64 c.accumulated-r.result) ≡ c.accumulated-r.result = search rules in record {
       turns = (λ p starts passes lasts follows.
           let moves = repeats p a.f starts passes lasts follows.lasts c.at-flow.result c.requires.lt_repeat c.at-flow.ensures in

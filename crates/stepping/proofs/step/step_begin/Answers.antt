@@ -45,7 +45,7 @@ returns c =
     (record {
       step =
           begins_step settings p a.code.now a.at a.f acc oflags sflags a.w.now a.starts.now a.passes.now memory follows.here
-          c.requires.bound c.requires.at_bound few begin.new.1.1.1.1.1.0 begin.new.1.1.1.1.1.1.0 begin.result (begin.ensures.result_after p acc oflags);
+          c.requires.bound c.requires.at_bound few begin.new.starts begin.new.passes begin.result (begin.ensures.result_after p acc oflags);
       lasts = begin.ensures.lasts p follows;
       mode = λ z. begin.ensures.mode_value;
       twos = twos;

@@ -24,7 +24,7 @@ returns-then-which-eq24 c =
     (record {
       step =
           mode_step settings p a.code.now a.at a.f acc oflags a.sflags.now w a.starts.now a.passes.now memory follows.here kind
-          next.new.1.1.0 next.new.1.1.1.0 next.result (rw (flow, c.word.ensures) at (moves.core w acc oflags));
+          next.new.starts next.new.passes next.result (rw (flow, c.word.ensures) at (moves.core w acc oflags));
       lasts = moves.lasts;
       mode = λ z. never (sym z);
       twos = twos;
@@ -42,7 +42,7 @@ returns-then-which-eq23 c =
     (record {
       step =
           early_step settings p a.code.now a.at a.f acc oflags a.sflags.now w a.starts.now a.passes.now memory follows.here kind
-          early.new.1.1.1.0 next.new.1.1.0 next.new.1.1.1.0 next.result (early.ensures p follows.lasts w acc oflags) (moves.core w acc oflags);
+          early.new.passes next.new.starts next.new.passes next.result (early.ensures p follows.lasts w acc oflags) (moves.core w acc oflags);
       lasts = moves.lasts;
       mode = λ z. next.ensures.mode_value;
       twos = twos;
@@ -59,7 +59,7 @@ returns c =
     (record {
       step =
           clear_step settings p a.code.now a.at a.f acc oflags a.sflags.now w a.starts.now a.passes.now memory follows.here
-          c.requires.bound (λ e. c.if-which-eq23.false (which ∙ e)) (λ e. c.if-which-eq24.false (which ∙ e)) twos.saturations next.new.1.1.0 next.new.1.1.1.0 next.result (moves.core w acc oflags);
+          c.requires.bound (λ e. c.if-which-eq23.false (which ∙ e)) (λ e. c.if-which-eq24.false (which ∙ e)) twos.saturations next.new.starts next.new.passes next.result (moves.core w acc oflags);
       lasts = moves.lasts;
       mode = λ z. next.ensures.mode_value;
       twos = record { values = twos.values; overflows = twos.overflows; saturations = simp length-set twos.saturations };

@@ -19,7 +19,7 @@ returns-then-blocked-ne0 c =
     (record {
       step =
           step_trapped a.settings p (coded_at a.code.now a.at) a.f a.acc.now a.oflags.now a.sflags.now a.w.now a.starts.now a.passes.now a.memory.now follows.here
-          (target_of (field a.code.now a.at 1)) e.new.1.1.1.1.1.0 e.new.1.1.1.1.1.1.0 e.result
+          (target_of (field a.code.now a.at 1)) e.new.w e.new.memory e.result
           (e.ensures (lent_core a.w.now a.acc.now a.oflags.now a.starts.now a.passes.now a.f)) c.if-blocked-ne0.true;
       lasts = follows.lasts;
       mode = λ z. refl;
@@ -31,7 +31,7 @@ write-trap-requires c =
     let a = c.args in
     let e = c.work-e in record {
       encoded = c.requires.encoded;
-      at_bound = writes_low a.settings a.f.mode a.code.now a.at a.acc.now a.w.now a.memory.now e.new.1.1.1.1.1.0 e.new.1.1.1.1.1.1.0 e.result
+      at_bound = writes_low a.settings a.f.mode a.code.now a.at a.acc.now a.w.now a.memory.now e.new.w e.new.memory e.result
           (lent_core a.w.now a.acc.now a.oflags.now a.starts.now a.passes.now a.f) c.requires.at_bound e.ensures;
       twos = c.requires.twos;
     }
@@ -46,18 +46,18 @@ returns c =
     let written = c.write-trap in
     let next = c.advance-flow in
     let core = lent_core a.w.now a.acc.now a.oflags.now a.starts.now a.passes.now a.f in
-    let w = e.new.1.1.1.1.1.0 in
-    let acc = written.new.1.1.1.1.0 in
-    let oflags = written.new.1.1.1.1.1.0 in
-    let sflags = written.new.1.1.1.1.1.1.0 in
+    let w = e.new.w in
+    let acc = written.new.acc in
+    let oflags = written.new.oflags in
+    let sflags = written.new.sflags in
     λ p follows.
     let moves = next.ensures.moves p follows.lasts in
     rw c.complete.ensures
     (record {
       step =
           step_done a.settings p (coded_at a.code.now a.at) a.f a.acc.now a.oflags.now a.sflags.now a.w.now a.starts.now a.passes.now a.memory.now follows.here
-          (target_of (field a.code.now a.at 1)) w e.new.1.1.1.1.1.1.0 e.result (e.ensures core)
-          acc oflags sflags next.new.1.1.0 next.new.1.1.1.0 next.result written.result
+          (target_of (field a.code.now a.at 1)) w e.new.memory e.result (e.ensures core)
+          acc oflags sflags next.new.starts next.new.passes next.result written.result
           c.if-blocked-ne0.false
           (onward_kind a.code.now a.at c.requires.at_bound)
           (written.ensures.by_index a.settings.traps a.f.mode c.requires.limits_value w a.starts.now a.passes.now a.f)
