@@ -116,7 +116,7 @@ returns c =
           (record {
             step =
                 step_done a.settings p (coded_at a.code.now a.at) a.f a.acc.now a.oflags.now a.sflags.now a.w.now starts passes a.memory.now follows.here
-                (target_of (field a.code.now a.at 1)) w a.memory.now (result c) (carried (goal.at.returns c).After-accumulated-r (lent_core a.w.now a.acc.now a.oflags.now starts passes a.f))
+                (target_of (field a.code.now a.at 1)) w a.memory.now (result (goal.at.returns c).After-accumulated-r) (carried (goal.at.returns c).After-accumulated-r (lent_core a.w.now a.acc.now a.oflags.now starts passes a.f))
                 acc oflags sflags starts passes c.at-flow.result settled.result refl
                 (onward_kind a.code.now a.at (omega (arith, small (goal.at.returns c).Start)))
                 written

@@ -6,7 +6,7 @@ use Rattle.stepping.proofs.step.step.Goals as goal
 pub step_work-requires : goal.step_work-requires
 step_work-requires c =
     let pre = c.requires in
-    (pre.encoded, (omega (arith, c.kind-which.ensures, c.if-which-lt19.true), pre.1))
+    record { encoded = pre.encoded; at_bound = omega (arith, c.kind-which.ensures, c.if-which-lt19.true); xwords_in_bounds = pre.xwords_in_bounds; limits_value = pre.limits_value; accumulators = pre.accumulators; twos = pre.twos; standing = pre.standing }
 
 pub step_begin-requires : goal.step_begin-requires
 step_begin-requires c =
