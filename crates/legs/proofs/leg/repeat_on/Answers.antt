@@ -48,7 +48,7 @@ returns-then-not-r c =
     λ p window stood.
     let way = inv.0 p window stood in
     let turns = turn.ensures.turns p a.starts.now a.passes.now a.lasts.now (subst (λ (n : ℕ). Follows p a.code.now (16 * (n - a.first)) c.loop-settings.f a.starts.now a.lasts.now) inv.4 (follows way window low high)) in
-    rw c.ended.ensures (goes_over way window low high (λ e. omega (arith, inv.2, e)) _ turn.result turns c.if-not-r.true)
+    rw c.ended.ensures (goes_over way window low high (λ e. omega (arith, inv.2, e)) _ turn.result turns (not-true _ c.if-not-r.true))
 
 pub overflow_add-total : goal.overflow_add-total
 overflow_add-total c =
@@ -65,7 +65,7 @@ returns-then-number-ne0 c =
     λ p window stood.
     let way = inv.0 p window stood in
     let turns = turn.ensures.turns p a.starts.now a.passes.now a.lasts.now (subst (λ (n : ℕ). Follows p a.code.now (16 * (n - a.first)) c.loop-settings.f a.starts.now a.lasts.now) inv.4 (follows way window low high)) in
-    rw c.ended-then-number-ne0.ensures (goes_last way window low high (λ e. omega (arith, inv.2, e)) _ turn.result turns c.if-not-r.false c.if-number-ne0.true)
+    rw c.ended-then-number-ne0.ensures (goes_last way window low high (λ e. omega (arith, inv.2, e)) _ turn.result turns (not-false _ c.if-not-r.false) c.if-number-ne0.true)
 
 pub returns-then-f-total : goal.returns-then-f-total
 returns-then-f-total c =
@@ -78,7 +78,7 @@ returns-then-f-total c =
     λ p window stood.
     let way = inv.0 p window stood in
     let turns = turn.ensures.turns p a.starts.now a.passes.now a.lasts.now (subst (λ (n : ℕ). Follows p a.code.now (16 * (n - a.first)) c.loop-settings.f a.starts.now a.lasts.now) inv.4 (follows way window low high)) in
-    let next = goes_next way window low high (λ e. omega (arith, inv.2, e)) _ turn.result turns c.if-not-r.false c.if-number-ne0.false in
+    let next = goes_next way window low high (λ e. omega (arith, inv.2, e)) _ turn.result turns (not-false _ c.if-not-r.false) c.if-number-ne0.false in
     rw c.ended-then-f-total.ensures (goes_onward next _ _ (omega (arith, way.forward)))
 
 pub loop-settings-smaller : goal.loop-settings-smaller
@@ -99,7 +99,7 @@ loop-settings-preserved c =
       (λ p window stood.
           let way = inv.0 p window stood in
           let turns = turn.ensures.turns p a.starts.now a.passes.now a.lasts.now (subst (λ (n : ℕ). Follows p a.code.now (16 * (n - a.first)) c.loop-settings.f a.starts.now a.lasts.now) inv.4 (follows way window low high)) in
-          goes_next way window low high (λ e. omega (arith, inv.2, e)) _ turn.result turns c.if-not-r.false c.if-number-ne0.false),
+          goes_next way window low high (λ e. omega (arith, inv.2, e)) _ turn.result turns (not-false _ c.if-not-r.false) c.if-number-ne0.false),
       rw (known-turns.mode turn.ensures.ends_value) inv.1,
       omega (arith, inv.2, eqb-false (c.loop-settings.total + 1) a.budget rest.1),
       omega (arith, ltb-false turn.result.flow.repeat 2 rest.0),

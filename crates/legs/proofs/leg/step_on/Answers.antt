@@ -62,7 +62,7 @@ returns-then-not-r c =
     λ p window stood.
     let way = c.loop-settings.invariant.0 p window stood in
     rw c.ended-then-not-r.ensures
-    (goes_over way window here.0 here.1 c.if-made-budget.false _ c.step-r.result (c.step-r.ensures p (follows way window here.0 here.1)) c.if-not-r.true)
+    (goes_over way window here.0 here.1 c.if-made-budget.false _ c.step-r.result (c.step-r.ensures p (follows way window here.0 here.1)) (not-true _ c.if-not-r.true))
 
 pub overflow_add-made : goal.overflow_add-made
 overflow_add-made c =
@@ -77,7 +77,7 @@ returns-then-trap-ne0 c =
     λ p window stood.
     let way = c.loop-settings.invariant.0 p window stood in
     rw c.ended-then-trap-ne0.ensures
-    (goes_last way window here.0 here.1 c.if-made-budget.false _ c.step-r.result (c.step-r.ensures p (follows way window here.0 here.1)) c.if-not-r.false c.if-trap-ne0.true)
+    (goes_last way window here.0 here.1 c.if-made-budget.false _ c.step-r.result (c.step-r.ensures p (follows way window here.0 here.1)) (not-false _ c.if-not-r.false) c.if-trap-ne0.true)
 
 pub returns-then-r : goal.returns-then-r
 returns-then-r c =
@@ -85,7 +85,7 @@ returns-then-r c =
     let here = inside c.loop-settings.f.pc a.first a.count c.if-pc-first.false in
     λ p window stood.
     let way = c.loop-settings.invariant.0 p window stood in
-    let next = goes_next way window here.0 here.1 c.if-made-budget.false _ c.step-r.result (c.step-r.ensures p (follows way window here.0 here.1)) c.if-not-r.false c.if-trap-ne0.false in
+    let next = goes_next way window here.0 here.1 c.if-made-budget.false _ c.step-r.result (c.step-r.ensures p (follows way window here.0 here.1)) (not-false _ c.if-not-r.false) c.if-trap-ne0.false in
     rw c.ended-then-r.ensures (goes_onward next a.first a.count (omega (arith, way.forward)))
 
 pub loop-settings-smaller : goal.loop-settings-smaller
@@ -104,6 +104,6 @@ loop-settings-preserved c =
     let mode = (c.step-r.ensures known.program (follows known-way known.window here.0 here.1)).mode c.if-r.false in (
       (λ p window stood.
           let way = c.loop-settings.invariant.0 p window stood in
-          goes_next way window here.0 here.1 left _ c.step-r.result (c.step-r.ensures p (follows way window here.0 here.1)) c.if-not-r.false c.if-trap-ne0.false),
+          goes_next way window here.0 here.1 left _ c.step-r.result (c.step-r.ensures p (follows way window here.0 here.1)) (not-false _ c.if-not-r.false) c.if-trap-ne0.false),
       rw mode c.loop-settings.invariant.1,
     )
