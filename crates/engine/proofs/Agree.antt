@@ -56,8 +56,8 @@ abbrev pub FlaggedIn : Engine → Type 0
 FlaggedIn x = Flagged x.state
 
 -- what keeps each flag keeps one of the two
-pub either : {s s' : State} → ((t : Target) → SetIn t s → SetIn t s') → Flagged s → Flagged s'
-either keep h = ⊎_elim (λ f. inl (keep A f)) (λ f. inr (keep B f)) h
+pub either : (s s' : State) → ((t : Target) → SetIn t s → SetIn t s') → Flagged s → Flagged s'
+either s s' keep h = ⊎_elim (λ f. inl (keep A f)) (λ f. inr (keep B f)) h
 
 -- which cannot be where both are clear
 pub flagged_clear : (s : State) → Flagged s → FlagsClear s → ⊥
@@ -145,7 +145,8 @@ module _ (p : List Operation) (o : Operation) (stays : clears (control_of o) ≡
     settling_follows (Replace t r) c memory l =
         by_test (Follows (settling p o traps m (Replace t r) (cleared c) memory)) (has_left m t r)
         (λ e.
-        let set = either (λ t. controlled_stays t _) (write_flags m t r c e) in
+        let s = with_written (cleared c) t (write_of (accumulator_at (cleared c) t) m t r) in
+        let set = either s (state_controlled p (control_of o) s) (λ u. controlled_stays u s) (write_flags m t r c e) in
         by_test (Into FlaggedIn) (eqb (trap_after traps m t r) 0) (λ f. set) (λ f. set))
         (λ e.
         rw (trap_inside m traps t r e, write_exact m t r c e, controlled_clear (with_accumulator c t r (overflows r)))

@@ -70,5 +70,5 @@ returns c =
     let ram : AreWords a.memory.now = λ i. omega (arith, c.slice_known-1.given i) in
     let room : 16 * operation_count file ≤ length a.words.now = rw count at c.if-words-count.false in
     let ran = c.run_accepted.ensures in
-    decoded_runs file a.settings a.state a.memory.now a.budget a.words.now none room typed ram _ _ _ ran.0
-    (ran.1 (rw count) ∙ c.decode_program.ensures)
+    decoded_runs file a.settings a.state a.memory.now a.budget a.words.now none room typed ram _ _ _ ran.memory_after
+    (ran.words_unchanged (rw count) ∙ c.decode_program.ensures)

@@ -30,7 +30,7 @@ run_windows-r-requires c =
     let ram : AreWords c.args.memory.now = λ i. omega (arith, c.slice_known-2-1.given i) in
     let kept = c.lasts_of-lasts.ensures in
     let stood = state_stood (program_of file) c.args.settings s _ c.args.memory.now sums typed c.requires.state_value ram c.requires.xwords_in_bounds kept in
-    (c.requires.file_value, (rw c.flow_of-flow.ensures stood, c.requires.1.1.1))
+    record { file_value = c.requires.file_value; stood = rw c.flow_of-flow.ensures stood; covers = c.requires.covers; in_bounds = c.requires.in_bounds }
 
 pub returns : goal.returns
 returns c =
@@ -40,4 +40,4 @@ returns c =
     let sums = rw (accumulator_kept s.core.a stands.a, accumulator_kept s.core.b stands.b) at c.sums_of-acc.ensures in
     let ran = c.run_windows-r.ensures in
     let same = state_runs (program_of file) c.args.settings s c.lasts_of-lasts.result c.args.memory.now sums c.args.budget in
-    record { memory_after = rw (c.ending_of.ensures, c.state_of-last.ensures) (rw c.flow_of-flow.ensures at ran.0 ∙ same); words_unchanged = ran.1 }
+    record { memory_after = rw (c.ending_of-ending.ensures, c.state_of-last.ensures) (rw c.flow_of-flow.ensures at ran.result_after ∙ same); words_unchanged = ran.words_unchanged }

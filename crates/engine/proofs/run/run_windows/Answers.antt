@@ -55,9 +55,9 @@ returns-then-not-is_elsewhere c =
     let below = rw (program_length file accepted) at (at_operation inv.0.along (λ e. c.if-pc-count.false (e ∙ sym count))) in
     let has = c.cover-here.ensures in
     let went = c.run_on-r.ensures in
-    let leg = went.0 (program_of file) has.covers (way_stood inv.0) in
+    let leg = went.goes (program_of file) has.covers (way_stood inv.0) in
     let stays = sym c.is_elsewhere.ensures ∙ c.if-not-is_elsewhere.true in
-    record { result_after = goes_ended inv.0 _ (rw went.1 stays) leg ∙ all_left (program_of file) a.settings a.budget (engine_in h a.flow); words_unchanged = λ e. (kept_whole inv.1.1.1 below has e).1 }
+    record { result_after = goes_ended inv.0 _ (rw went.pause_value stays) leg ∙ all_left (program_of file) a.settings a.budget (engine_in h a.flow); words_unchanged = λ e. (kept_whole inv.1.1.1 below has e).1 }
 
 pub loop-settings-smaller : goal.loop-settings-smaller
 loop-settings-smaller c =
@@ -77,6 +77,6 @@ loop-settings-preserved c =
     let below = rw (program_length file accepted) at (at_operation inv.0.along (λ e. c.if-pc-count.false (e ∙ sym count))) in
     let has = c.cover-here.ensures in
     let went = c.run_on-r.ensures in
-    let leg = went.0 (program_of file) has.covers (way_stood inv.0) in
+    let leg = went.goes (program_of file) has.covers (way_stood inv.0) in
     let on = sym c.is_elsewhere.ensures ∙ c.if-not-is_elsewhere.false in
-    (way_along inv.0 leg (rw went.1 on), (has.covers, (c.cover-here.auto.words ∙ inv.1.1.0, kept_whole inv.1.1.1 below has)))
+    (way_along inv.0 leg (rw went.pause_value on), (has.covers, (c.cover-here.auto.words ∙ inv.1.1.0, kept_whole inv.1.1.1 below has)))
