@@ -133,21 +133,21 @@ module _ (s : Settings) (m : Mode) (signed : m.unsigned ≡ false) (c : Core) (m
   pub work_meets : (o : Operation) → is_listed o ≡ true → (writes_a o ≡ true → adds_to_a o ≡ true) → MeetsBy o (work_of s m o c memory)
   unfolding work_of writes_a adds_to_a encode_of is_listed
   work_meets (MacOperation k) listed h = mac_work_lem k listed h
-  work_meets (AddAccumulators t) listed h = λ z. other_meets _ (c.a +ℤ c.b) t h
-  work_meets (Subtract t) listed h = λ z. other_meets _ (accumulator_of c t -ℤ accumulator_of c (other_of t)) t h
-  work_meets (Negate t) listed h = λ z. other_meets _ (neg_ℤ (accumulator_of c t)) t h
-  work_meets (Shift t r) listed h = λ z. shift_leaves _ t (signed_of 16 (register c.w r)) h
-  work_meets (Lac t b2 o) listed h = λ z. load_leaves _ t (pos 0) b2 o h
-  work_meets (Add t b2 o) listed h = λ z. load_leaves _ t (accumulator_of c t) b2 o h
-  work_meets (Sac t b2 o) listed h = λ z. store_leaves _ o (Scaled false (scaled_of c t b2))
-  work_meets (SacR t b2 o) listed h = λ z. store_leaves _ o (Scaled true (scaled_of c t b2))
+  work_meets (AddAccumulators t) listed h = λ z. other_meets (sum_by (AddAccumulators t)) (c.a +ℤ c.b) t h
+  work_meets (Subtract t) listed h = λ z. other_meets (sum_by (Subtract t)) (accumulator_of c t -ℤ accumulator_of c (other_of t)) t h
+  work_meets (Negate t) listed h = λ z. other_meets (sum_by (Negate t)) (neg_ℤ (accumulator_of c t)) t h
+  work_meets (Shift t r) listed h = λ z. shift_leaves (sum_by (Shift t r)) t (signed_of 16 (register c.w r)) h
+  work_meets (Lac t b2 o) listed h = λ z. load_leaves (sum_by (Lac t b2 o)) t (pos 0) b2 o h
+  work_meets (Add t b2 o) listed h = λ z. load_leaves (sum_by (Add t b2 o)) t (accumulator_of c t) b2 o h
+  work_meets (Sac t b2 o) listed h = λ z. store_leaves (sum_by (Sac t b2 o)) o (Scaled false (scaled_of c t b2))
+  work_meets (SacR t b2 o) listed h = λ z. store_leaves (sum_by (SacR t b2 o)) o (Scaled true (scaled_of c t b2))
   work_meets (Literal r v) listed h = λ z. tt
-  work_meets (Load r p post) listed h = λ z. move_leaves _ r p post
-  work_meets (Store r p post) listed h = λ z. store_leaves _ (Pointed p post) (Word (register c.w r))
+  work_meets (Load r p post) listed h = λ z. move_leaves (sum_by (Load r p post)) r p post
+  work_meets (Store r p post) listed h = λ z. store_leaves (sum_by (Store r p post)) (Pointed p post) (Word (register c.w r))
   work_meets (Repeat n) listed h = λ z. tt
   work_meets (RepeatRegister r) listed h = λ z. tt
-  work_meets (Do n last) listed h = λ z. loop_leaves _
-  work_meets (DoRegister r last) listed h = λ z. loop_leaves _
+  work_meets (Do n last) listed h = λ z. loop_leaves (sum_by (Do n last))
+  work_meets (DoRegister r last) listed h = λ z. loop_leaves (sum_by (DoRegister r last))
   work_meets EndEarly listed h = λ z. tt
   work_meets (SetMode word) listed h = λ z. tt
   work_meets ClearSaturation listed h = λ z. tt

@@ -14,7 +14,8 @@ returns-then-refused-ne0 c =
 pub add_up-requires : goal.add_up-requires
 add_up-requires c =
     let start = c.args in
-    accepted_boards start.boards start.count start.mode (sym c.refusal-refused.ensures ∙ c.if-refused-ne0.false)
+    let accepted = accepted_boards start.boards start.count start.mode (sym c.refusal-refused.ensures ∙ c.if-refused-ne0.false) in
+    record { count_bound = accepted.0; count_value = accepted.1 }
 
 pub returns : goal.returns
 returns c =

@@ -26,9 +26,9 @@ bounds-boards-i c = omega (arith, c.requires.count_bound)
 pub add-sum-requires : goal.add-sum-requires
 add-sum-requires c =
     let at-loop = c.loop-i in
-    let a = (board_at c.args.t1 at-loop.i).a in
+    let a = (board_at c.args.boards at-loop.i).a in
     let back : to_z w64 (of_z w64 a) ≡ a = search rules in
-    record { value_value = at-loop.invariant.2; a_value = rw back (accumulator_at_lem c.args.t1 c.args.count at-loop.i c.requires.count_value (omega arith)) }
+    record { value_value = at-loop.invariant.2; a_value = rw back (accumulator_at_lem c.args.boards c.args.count at-loop.i c.requires.count_value (omega arith)) }
 
 pub overflow_add-i : goal.overflow_add-i
 overflow_add-i c = omega (arith, c.requires.count_bound)
@@ -40,7 +40,7 @@ pub loop-i-preserved : goal.loop-i-preserved
 unfolding added_up
 loop-i-preserved c =
     let at-loop = c.loop-i in
-    let a = (board_at c.args.t1 at-loop.i).a in
+    let a = (board_at c.args.boards at-loop.i).a in
     let back : to_z w64 (of_z w64 a) ≡ a = search rules in (
       omega arith,
       rw (add-one, c.add-sum.ensures, back, ← at-loop.invariant.1),

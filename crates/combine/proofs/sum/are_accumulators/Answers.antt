@@ -28,7 +28,7 @@ loop-i-smaller c = omega arith
 pub loop-i-preserved : goal.loop-i-preserved
 unfolding are_accumulators
 loop-i-preserved c =
-    let a = (board_at c.args.t1 c.loop-i.i).a in
+    let a = (board_at c.args.boards c.loop-i.i).a in
     let back : to_z w64 (of_z w64 a) ≡ a = search rules in
     (omega arith, rw (add-one, c.loop-i.invariant.1, c.is_accumulator-good.ensures, back))
 

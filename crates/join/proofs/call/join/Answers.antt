@@ -28,8 +28,8 @@ joinable : (c : Else-total-gt4032)
     c.operation_count-n.result
 joinable c =
     record {
-      first_accepted = opens c.BEFORE-In_default;
-      second_accepted = follows c.before.before.before;
+      first_accepted = sym c.check_file.ensures ∙ ap verdict_number c.in_default.is;
+      second_accepted = sym c.check_file-2.ensures ∙ ap verdict_number c.in_default-check_file.is;
       count = c.operation_count-n.ensures;
       few = omega (arith, c.operation_count.ensures, c.if-total-gt4032.false);
     }
@@ -94,3 +94,9 @@ returns c =
     (join_fits first second n ok (length c.args.out.now) (rw (← c.operation_count.ensures) c.if-out-size.false))
     (ap (λ (k : ℕ). 512 * ((n + k + 62) / 63)) c.operation_count.ensures ∙ joined_size first second n ok)
     c.write_joined.ensures)
+
+pub operation_count-n-requires : goal.operation_count-n-requires
+operation_count-n-requires c = accepted_blocks _ (opens (goal.at.operation_count-n-requires c).In_default)
+
+pub operation_count-requires : goal.operation_count-requires
+operation_count-requires c = accepted_blocks _ (follows (goal.at.operation_count-requires c).In_default-check_file)

@@ -6,4 +6,4 @@ use Rattle.text.proofs.Fields.{check_append}
 use Rattle.lines.proofs.line.check_registers.Goals as goal
 
 pub returns : goal.returns
-returns c = c.check_words.ensures ∙ rw c.check_words-first.ensures (check_append 0 c.args.t1 (replicate 56 0))
+returns c = c.check_words.ensures ∙ rw c.check_words-first.ensures (check_append 0 c.args.w (replicate 56 0))

@@ -122,3 +122,13 @@ overflow_add-i c = omega (arith, c.loop-i-test.true, c.well_formed.1.1.1.1.1.0.0
 
 pub loop-i-smaller : goal.loop-i-smaller
 loop-i-smaller c = omega (arith, c.loop-i-test.true)
+
+pub slice_bounds-serve_bag-end : goal.slice_bounds-serve_bag-end
+slice_bounds-serve_bag-end c =
+    let args = c.args in
+    let d : Schedule = record { window = args.window; budgets = args.budgets.now; restarts = args.restarts.now; words = args.words.now } in
+    let enough : Enough d (length args.memory.now) (length args.endings.now) (length args.steps.now) = enough_so d _ _ _ c.requires in
+    let i : ℕ = c.loop-i.i in
+    let below : i < length args.budgets.now = c.loop-i-test.true in
+    let there : i * args.window.size + args.window.size ≤ length args.words.now = words_there d _ _ _ enough i below in
+    omega (arith, there)

@@ -7,4 +7,4 @@ use borrow.Author.Rules.{rules}
 use Rattle.stream.proofs.header.flag.Goals as goal
 
 pub returns : goal.returns
-returns c = rw (and_mask (get_or c.args.t1 110 0 / 2 ^ c.args.i) 1)
+returns c = rw (and_mask (get_or c.args.head 110 0 / 2 ^ c.args.i) 1)
