@@ -5,13 +5,13 @@
 #   no step    the call from the file with budget 0, less the one refused with 7: beginning and ending, and the operation at pc decoded
 #   decoding   the same difference over decoded operations, less that from the file
 #   steps      the whole budget less budget 0; from the file also the operations decoded on the way
-# ENGINE names another program `cases` than the one compiled here.
+# The engine is the proved `cases` that `rt ci`, or `rt run` in crates/cases, leaves in crates/cases/out; ENGINE names another.
 set -euo pipefail
 work=$(mktemp -d)
 trap 'rm -rf "$work"' EXIT
-engine=$(realpath -m "${ENGINE:-$work/cases}")
+engine=$(realpath -m "${ENGINE:-$(dirname "$0")/../../crates/cases/out/cases}")
 cd "$(dirname "$0")"
-[ -n "${ENGINE:-}" ] || ./build.sh "$engine"
+[ -x "$engine" ] || { echo "short: no program $engine: rt ci, or rt run in crates/cases, makes it" >&2; exit 1; }
 samples=../../samples
 run=16 decoded=21 lent=$((16 * 4032))
 

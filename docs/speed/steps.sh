@@ -1,13 +1,14 @@
 #!/usr/bin/env bash
 # Fails where the engine takes more than 200 instructions a step over decoded operations. valgrind counts them, alike on every run; the
-# difference of two budgets leaves out start, decoding and printing. ENGINE names another program `cases` than the one compiled here.
+# difference of two budgets leaves out start, decoding and printing. The engine is the proved `cases` that `rt ci`, or `rt run` in crates/cases,
+# leaves in crates/cases/out; ENGINE names another.
 set -euo pipefail
 most=200 few=20000 many=120000
 work=$(mktemp -d)
 trap 'rm -rf "$work"' EXIT
-engine=$(realpath -m "${ENGINE:-$work/cases}")
+engine=$(realpath -m "${ENGINE:-$(dirname "$0")/../../crates/cases/out/cases}")
 cd "$(dirname "$0")"
-[ -n "${ENGINE:-}" ] || ./build.sh "$engine"
+[ -x "$engine" ] || { echo "steps: no program $engine: rt ci, or rt run in crates/cases, makes it" >&2; exit 1; }
 if ! command -v valgrind >/dev/null; then
     as_root=$([ "$(id -u)" = 0 ] || echo sudo)
     $as_root apt-get update -qq

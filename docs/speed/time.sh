@@ -1,13 +1,13 @@
 #!/usr/bin/env bash
 # Ten million steps by the proved engine, over decoded operations and from the file, by the tuned interpreter and by the simple simulator of
 # docs/src, all optimised, by turns, eleven rounds: the medians of user and system seconds, and the engine's over each of the other two.
-# ENGINE names another program `cases` than the one that `rt check` proves.
+# ENGINE names another program `cases` than the one that `rt run` proves and builds.
 set -euo pipefail
 root=$(realpath "$(dirname "$0")/../..")
-engine=$(realpath -m "${ENGINE:-$root/target/bin/cases}")
+engine=$(realpath -m "${ENGINE:-$root/crates/cases/out/cases}")
 cd "$root"
 export PATH="$HOME/.cargo/bin:$PATH"
-[ -n "${ENGINE:-}" ] || rt check cases >/dev/null
+[ -n "${ENGINE:-}" ] || (cd crates/cases && rt run >/dev/null </dev/null)
 (cd docs/src && cargo build --profile speed --offline --locked --quiet)
 rust=${CARGO_TARGET_DIR:-docs/src/target}/speed
 rounds=11

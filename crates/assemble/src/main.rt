@@ -2,11 +2,27 @@
 // line ends part them, and a comment goes from # to the end of its line.
 #![tactic(auto)]
 
-ghost use Rattle.std.specs.Prelude.{◌≤◌};
+ghost use Rattle.std.specs.Prelude.{◌≤◌, IfOk, length};
 
-use libc::{STDERR_FILENO, STDIN_FILENO, STDOUT_FILENO};
 use loader::write::write;
 use program::answer::Answer;
+use std::io;
+use std::io::{Read, Stderr, Stdin, Stdout};
+
+// Reads until the slice is full or the input ends; how many bytes were read.
+fn read_full(mut stdin: Stdin, bytes: &mut [u8]) -> io::Result<usize>
+    ensures { IfOk result (λ n. n ≤ length bytes.new) }
+{
+    let mut done = 0;
+    while done < bytes.len() {
+        let n = stdin.read(&mut bytes[done..])?;
+        if n == 0 {
+            break;
+        }
+        done += n;
+    }
+    Ok(done)
+}
 
 // The value of a hexadecimal digit; 16 for any other character.
 fn digit(c: u8) -> u8
@@ -89,43 +105,38 @@ fn parse(text: &[u8], out: &mut [u8]) -> usize {
 }
 
 // The first n bytes.
-fn print_part(file: &[u8], n: usize) {
+fn print_part(stdout: Stdout, file: &[u8], n: usize) -> io::Result<()> {
     if n <= file.len() {
-        io::write_all(STDOUT_FILENO, &file[0..n]);
+        stdout.write_all(&file[0..n])?;
     }
+    Ok(())
 }
 
 // The program file of these operations, or the refusal on standard error.
-fn print_file(operations: &[u8]) {
+fn print_file(stdout: Stdout, stderr: Stderr, operations: &[u8]) -> io::Result<()> {
     let mut file = [0u8; 32768];
     match write(operations, &mut file) {
-        Answer::Written(size) => print_part(&file, size),
-        Answer::Refused(r) => {
-            io::write_all(STDERR_FILENO, b"refused");
-            io::print_decimal(STDERR_FILENO, r.number() as u64);
-            io::write_all(STDERR_FILENO, b"\n");
-        }
+        Answer::Written(size) => print_part(stdout, &file, size),
+        Answer::Refused(r) => eprintln!(stderr; "refused{}", r.number()),
     }
 }
 
 // What is no text of operations.
-fn refuse() {
-    io::write_all(STDERR_FILENO, b"badtext\n");
+fn refuse(stderr: Stderr) -> io::Result<()> {
+    eprintln!(stderr; "badtext")
 }
 
 // A text of at most 65,536 characters: one more is read, so that a longer one is seen.
-fn main() {
+fn main(rt: HostRuntime) -> io::Result<()> {
     let mut text = [0u8; 65537];
     let mut operations = [0u8; 32768];
-    let size = io::read_full(STDIN_FILENO, &mut text);
+    let size = read_full(rt.stdin(), &mut text)?;
     if 65536 < size {
-        refuse();
-        return;
+        return refuse(rt.stderr());
     }
     let n = parse(&text[0..size], &mut operations);
     if operations.len() < n {
-        refuse();
-        return;
+        return refuse(rt.stderr());
     }
-    print_file(&operations[0..n]);
+    print_file(rt.stdout(), rt.stderr(), &operations[0..n])
 }

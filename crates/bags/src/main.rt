@@ -1,13 +1,14 @@
 // Services from standard input, each answered by a line on standard output (docs/SERVICE.md has both forms).
 #![tactic(auto)]
 
-ghost use Rattle.std.specs.Prelude.{◌≡◌, ◌*◌, ◌≤◌, length};
+ghost use Rattle.std.specs.Prelude.{◌≡◌, ◌*◌, ◌≤◌, IfOk, length};
 
 use address::word::WordIndex;
-use libc::{STDIN_FILENO, STDOUT_FILENO};
 use lines::line;
 use report::notice::Notice;
 use service::call::{ServiceOutcome, Window, serve};
+use std::io;
+use std::io::{Read, Stdin, Stdout};
 use stream::header;
 use stream::memory::fill;
 use text::buffer::LINE;
@@ -32,45 +33,60 @@ struct Sizes {
     steps: usize,
 }
 
+// Reads until the slice is full or the input ends; how many bytes were read.
+fn read_full(mut stdin: Stdin, bytes: &mut [u8]) -> io::Result<usize>
+    ensures { IfOk result (λ n. n ≤ length bytes.new) }
+{
+    let mut done = 0;
+    while done < bytes.len() {
+        let n = stdin.read(&mut bytes[done..])?;
+        if n == 0 {
+            break;
+        }
+        done += n;
+    }
+    Ok(done)
+}
+
 // The beginning of a text on standard output, so many bytes of it.
-fn print_start(text: [u8; LINE], size: usize)
+fn print_start(stdout: Stdout, text: [u8; LINE], size: usize) -> io::Result<()>
     requires { size ≤ 640 }
 {
-    io::write_all(STDOUT_FILENO, &text[0..size]);
+    stdout.write_all(&text[0..size])
 }
 
 // The last line of a stream that breaks off or asks for too much.
-fn stop(notice: Notice) -> bool {
+fn stop(stdout: Stdout, notice: Notice) -> io::Result<bool> {
     let mut text = [0u8; LINE];
     let n = line::notice_line(&mut text, notice);
-    print_start(text, n);
-    false
+    print_start(stdout, text, n)?;
+    Ok(false)
 }
 
 // Whether all of the slice was read.
-fn read(bytes: &mut [u8]) -> bool {
+fn read(stdin: Stdin, bytes: &mut [u8]) -> io::Result<bool> {
     let n = bytes.len();
-    io::read_full(STDIN_FILENO, bytes) == n
+    Ok(read_full(stdin, bytes)? == n)
 }
 
 // Words of 2 bytes, through a slice that has room for them; false where the input breaks off.
-fn read_through(bytes: &mut [u8], words: &mut [u16]) -> bool
+fn read_through(stdin: Stdin, bytes: &mut [u8], words: &mut [u16]) -> io::Result<bool>
     requires { 2 * length words.old ≤ length bytes.old }
 {
     let n = 2 * words.len();
-    if !read(&mut bytes[..n]) {
-        return false;
+    if !read(stdin, &mut bytes[..n])? {
+        return Ok(false);
     }
     fill(words, bytes);
-    true
+    Ok(true)
 }
 
 // Words of 2 bytes, no more of them than memory has; false where the input breaks off.
-fn read_words(words: &mut [u16]) -> bool
+fn read_words(stdin: Stdin, words: &mut [u16]) -> io::Result<bool>
     requires { length words.old ≤ 32768 }
 {
     let mut bytes = [0u8; 2 * MEMORY];
-    read_through(&mut bytes, words)
+    read_through(stdin, &mut bytes, words)
 }
 
 // A number of 4 bytes.
@@ -79,31 +95,31 @@ fn long(b: [u8; 4]) -> u32 {
 }
 
 // Numbers of 4 bytes; false where the input breaks off.
-fn read_longs(longs: &mut [u32]) -> bool {
+fn read_longs(stdin: Stdin, longs: &mut [u32]) -> io::Result<bool> {
     let mut i = 0;
     while i < longs.len() {
         let mut bytes = [0u8; 4];
-        if !read(&mut bytes) {
-            return false;
+        if !read(stdin, &mut bytes)? {
+            return Ok(false);
         }
         longs[i] = long(bytes);
         i += 1;
     }
-    true
+    Ok(true)
 }
 
 // Restarts of 1 byte, which is 0 where the bag goes on; false where the input breaks off.
-fn read_restarts(restarts: &mut [bool]) -> bool {
+fn read_restarts(stdin: Stdin, restarts: &mut [bool]) -> io::Result<bool> {
     let mut i = 0;
     while i < restarts.len() {
         let mut bytes = [0u8; 1];
-        if !read(&mut bytes) {
-            return false;
+        if !read(stdin, &mut bytes)? {
+            return Ok(false);
         }
         restarts[i] = bytes[0] != 0;
         i += 1;
     }
-    true
+    Ok(true)
 }
 
 // The seven numbers before the bags.
@@ -135,35 +151,44 @@ fn count_up(endings: &mut [u8], steps: &mut [u32])
 }
 
 // The ending code and the steps of a bag.
-fn print_bag(ending: u8, steps: u32) {
+fn print_bag(stdout: Stdout, ending: u8, steps: u32) -> io::Result<()> {
     let mut text = [0u8; LINE];
     let n = line::bag_text(&mut text, ending, steps);
-    print_start(text, n);
+    print_start(stdout, text, n)
 }
 
 // The first bags, no more of them than endings and steps.
-fn print_bags(bags: usize, endings: &[u8], steps: &[u32]) {
+fn print_bags(stdout: Stdout, bags: usize, endings: &[u8], steps: &[u32]) -> io::Result<()> {
     let mut i = 0;
     while i < bags && i < endings.len() && i < steps.len() {
-        print_bag(endings[i], steps[i]);
+        print_bag(stdout, endings[i], steps[i])?;
         i += 1;
     }
+    Ok(())
 }
 
 // The line of a service.
-fn print_service(r: ServiceOutcome, memory: &[u16], bags: usize, endings: &[u8], steps: &[u32]) {
+fn print_service(
+    stdout: Stdout,
+    r: ServiceOutcome,
+    memory: &[u16],
+    bags: usize,
+    endings: &[u8],
+    steps: &[u32],
+) -> io::Result<()> {
     let after = r.state;
     let mut text = [0u8; LINE];
     let n = line::service_text(&mut text, r.refusal, after, memory, endings, steps);
-    print_start(text, n);
+    print_start(stdout, text, n)?;
     if r.refusal == 0 {
-        print_bags(bags, endings, steps);
+        print_bags(stdout, bags, endings, steps)?;
     }
-    io::write_all(STDOUT_FILENO, b"\n");
+    stdout.write_all(b"\n")
 }
 
 // The service, and its line.
 fn answer(
+    stdout: Stdout,
     head: [u8; 320],
     file: &[u8],
     memory: &mut [u16],
@@ -173,7 +198,7 @@ fn answer(
     words: &[u16],
     endings: &mut [u8],
     steps: &mut [u32],
-) {
+) -> io::Result<()> {
     let r = serve(
         file,
         header::settings(head),
@@ -186,11 +211,12 @@ fn answer(
         endings,
         steps,
     );
-    print_service(r, memory, budgets.len(), endings, steps);
+    print_service(stdout, r, memory, budgets.len(), endings, steps)
 }
 
 // The answer, with as much of each slice as the service asks for.
 fn answer_in_parts(
+    stdout: Stdout,
     head: [u8; 320],
     file: &[u8],
     memory: &mut [u16],
@@ -200,7 +226,7 @@ fn answer_in_parts(
     words: &[u16],
     endings: &mut [u8],
     steps: &mut [u32],
-)
+) -> io::Result<()>
     requires budgets_in_bounds { sizes.budgets ≤ length budgets.now }
     requires restarts_in_bounds { sizes.restarts ≤ length restarts.now }
     requires words_in_bounds { sizes.words ≤ length words.now }
@@ -214,6 +240,7 @@ fn answer_in_parts(
     let e = sizes.endings;
     let s = sizes.steps;
     answer(
+        stdout,
         head,
         file,
         memory,
@@ -223,11 +250,17 @@ fn answer_in_parts(
         &words[..w],
         &mut endings[..e],
         &mut steps[..s],
-    );
+    )
 }
 
 // The budgets, the restarts and the words, each in a part of its slice; false where the input breaks off.
-fn read_lists(sizes: Sizes, budgets: &mut [u32], restarts: &mut [bool], words: &mut [u16]) -> bool
+fn read_lists(
+    stdin: Stdin,
+    sizes: Sizes,
+    budgets: &mut [u32],
+    restarts: &mut [bool],
+    words: &mut [u16],
+) -> io::Result<bool>
     requires budgets_in_bounds { sizes.budgets ≤ length budgets.old }
     requires restarts_in_bounds { sizes.restarts ≤ length restarts.old }
     requires words_in_bounds { sizes.words ≤ length words.old }
@@ -236,13 +269,13 @@ fn read_lists(sizes: Sizes, budgets: &mut [u32], restarts: &mut [bool], words: &
     let n = sizes.budgets;
     let r = sizes.restarts;
     let w = sizes.words;
-    if !read_longs(&mut budgets[..n]) {
-        return false;
+    if !read_longs(stdin, &mut budgets[..n])? {
+        return Ok(false);
     }
-    if !read_restarts(&mut restarts[..r]) {
-        return false;
+    if !read_restarts(stdin, &mut restarts[..r])? {
+        return Ok(false);
     }
-    read_words(&mut words[..w])
+    read_words(stdin, &mut words[..w])
 }
 
 // The larger number.
@@ -262,23 +295,31 @@ fn most_bags(sizes: Sizes) -> usize
 }
 
 // The bags and the answer, unless the bags are too many; false where the program ends.
-fn bags(head: [u8; 320], file: &[u8], memory: &mut [u16], sizes: Sizes) -> bool {
+fn bags(
+    stdin: Stdin,
+    stdout: Stdout,
+    head: [u8; 320],
+    file: &[u8],
+    memory: &mut [u16],
+    sizes: Sizes,
+) -> io::Result<bool> {
     if BAGS < most_bags(sizes) {
-        return stop(Notice::TooLarge);
+        return stop(stdout, Notice::TooLarge);
     }
     if WORDS < sizes.words {
-        return stop(Notice::TooLarge);
+        return stop(stdout, Notice::TooLarge);
     }
     let mut budgets = [0u32; BAGS];
     let mut restarts = [false; BAGS];
     let mut words = [0u16; WORDS];
-    if !read_lists(sizes, &mut budgets, &mut restarts, &mut words) {
-        return stop(Notice::Short);
+    if !read_lists(stdin, sizes, &mut budgets, &mut restarts, &mut words)? {
+        return stop(stdout, Notice::Short);
     }
     let mut endings = [0u8; BAGS];
     let mut steps = [0u32; BAGS];
     count_up(&mut endings, &mut steps);
     answer_in_parts(
+        stdout,
         head,
         file,
         memory,
@@ -288,80 +329,96 @@ fn bags(head: [u8; 320], file: &[u8], memory: &mut [u16], sizes: Sizes) -> bool 
         &words,
         &mut endings,
         &mut steps,
-    );
-    true
+    )?;
+    Ok(true)
 }
 
 // The file, memory and the seven numbers; false where the input breaks off.
-fn read_first(file: &mut [u8], memory: &mut [u16], numbers: &mut [u32]) -> bool
+fn read_first(
+    stdin: Stdin,
+    file: &mut [u8],
+    memory: &mut [u16],
+    numbers: &mut [u32],
+) -> io::Result<bool>
     requires { length memory.old ≤ 32768 }
 {
-    if !read(file) {
-        return false;
+    if !read(stdin, file)? {
+        return Ok(false);
     }
-    if !read_words(memory) {
-        return false;
+    if !read_words(stdin, memory)? {
+        return Ok(false);
     }
-    read_longs(numbers)
+    read_longs(stdin, numbers)
 }
 
 // What follows the header; false where the program ends.
-fn rest(head: [u8; 320], file: &mut [u8], memory: &mut [u16]) -> bool
+fn rest(
+    stdin: Stdin,
+    stdout: Stdout,
+    head: [u8; 320],
+    file: &mut [u8],
+    memory: &mut [u16],
+) -> io::Result<bool>
     requires { length memory.old ≤ 32768 }
 {
     let mut numbers = [0u32; 7];
-    if !read_first(file, memory, &mut numbers) {
-        return stop(Notice::Short);
+    if !read_first(stdin, file, memory, &mut numbers)? {
+        return stop(stdout, Notice::Short);
     }
-    bags(head, file, memory, sizes_of(numbers))
+    bags(stdin, stdout, head, file, memory, sizes_of(numbers))
 }
 
 // What follows the header, with as much of each slice as it asks for; false where the program ends.
 fn rest_in_parts(
+    stdin: Stdin,
+    stdout: Stdout,
     head: [u8; 320],
     size: usize,
     count: usize,
     file: &mut [u8],
     memory: &mut [u16],
-) -> bool
+) -> io::Result<bool>
     requires size_in_bounds { size ≤ length file.old }
     requires count_in_bounds { count ≤ length memory.old }
     requires count_bound { count ≤ 32768 }
 {
-    rest(head, &mut file[..size], &mut memory[..count])
+    rest(stdin, stdout, head, &mut file[..size], &mut memory[..count])
 }
 
 // A service after its header, unless file or memory is too large; false where the program ends.
-fn after_header(head: [u8; 320]) -> bool {
+fn after_header(stdin: Stdin, stdout: Stdout, head: [u8; 320]) -> io::Result<bool> {
     let size = header::file_size(head);
     let count = header::memory_words(head);
     if FILE < size {
-        return stop(Notice::TooLarge);
+        return stop(stdout, Notice::TooLarge);
     }
     if MEMORY < count {
-        return stop(Notice::TooLarge);
+        return stop(stdout, Notice::TooLarge);
     }
     let mut file = [0u8; FILE];
     let mut memory = [0u16; MEMORY];
-    rest_in_parts(head, size, count, &mut file, &mut memory)
+    rest_in_parts(stdin, stdout, head, size, count, &mut file, &mut memory)
 }
 
 // One service; false at the end of the input and where the program ends.
-fn service() -> bool {
+fn service(stdin: Stdin, stdout: Stdout) -> io::Result<bool> {
     let mut head = [0u8; 320];
-    let got = io::read_full(STDIN_FILENO, &mut head[0..112]);
+    let got = read_full(stdin, &mut head[0..112])?;
     if got == 0 {
-        return false;
+        return Ok(false);
     }
     if got < 112 {
-        return stop(Notice::Short);
+        return stop(stdout, Notice::Short);
     }
-    after_header(head)
+    after_header(stdin, stdout, head)
 }
 
-fn main() {
+fn main(rt: HostRuntime) -> io::Result<()> {
+    let stdin = rt.stdin();
+    let stdout = rt.stdout();
     let mut turns = u64::MAX;
-    while turns > 0 && service() {
+    while turns > 0 && service(stdin, stdout)? {
         turns -= 1;
     }
+    Ok(())
 }

@@ -8,7 +8,10 @@ mod rows;
 mod rules;
 mod sweep;
 
-fn main() {
-    rows::print_rows();
-    sweep::print_checks();
+use std::io;
+
+fn main(rt: HostRuntime) -> io::Result<()> {
+    let stdout = rt.stdout();
+    rows::print_rows(stdout)?;
+    sweep::print_checks(stdout)
 }

@@ -1,5 +1,7 @@
 // For each rule a check over many drawn cases.
 use crate::{draw, print, rules};
+use std::io;
+use std::io::Stdout;
 
 // One case of a rule, by the rule's number.
 fn case_of(rule: u8, h: u64, x: u64, y: u64) -> u64 {
@@ -30,29 +32,29 @@ fn check_of(rule: u8, n: u32) -> u64 {
     h
 }
 
-fn print_check(name: &[u8], rule: u8) {
-    print::text(name);
-    print::text(b" 20000 ");
-    print::number(check_of(rule, 20000));
-    print::text(b"\n");
+fn print_check(stdout: Stdout, name: &[u8], rule: u8) -> io::Result<()> {
+    print::text(stdout, name)?;
+    print::text(stdout, b" 20000 ")?;
+    print::number(stdout, check_of(rule, 20000))?;
+    print::text(stdout, b"\n")
 }
 
-fn print_accumulator_checks() {
-    print_check(b"product", 0);
-    print_check(b"write", 1);
-    print_check(b"store", 2);
-    print_check(b"shift", 3);
-    print_check(b"status", 4);
-    print_check(b"mode", 5);
+fn print_accumulator_checks(stdout: Stdout) -> io::Result<()> {
+    print_check(stdout, b"product", 0)?;
+    print_check(stdout, b"write", 1)?;
+    print_check(stdout, b"store", 2)?;
+    print_check(stdout, b"shift", 3)?;
+    print_check(stdout, b"status", 4)?;
+    print_check(stdout, b"mode", 5)
 }
 
-fn print_address_checks() {
-    print_check(b"trap", 6);
-    print_check(b"step", 7);
-    print_check(b"reversal", 8);
+fn print_address_checks(stdout: Stdout) -> io::Result<()> {
+    print_check(stdout, b"trap", 6)?;
+    print_check(stdout, b"step", 7)?;
+    print_check(stdout, b"reversal", 8)
 }
 
-pub fn print_checks() {
-    print_accumulator_checks();
-    print_address_checks();
+pub fn print_checks(stdout: Stdout) -> io::Result<()> {
+    print_accumulator_checks(stdout)?;
+    print_address_checks(stdout)
 }

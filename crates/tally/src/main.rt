@@ -1,18 +1,34 @@
 // A program file from standard input is run, and a line says how it ended: document 01's `tally`.
 #![tactic(auto)]
 
-ghost use Rattle.std.specs.Prelude.{◌≤◌};
+ghost use Rattle.std.specs.Prelude.{◌≤◌, IfOk, length};
 ghost use Rattle.tally.specs.Tally.{Tallies};
 
 use engine::call::run;
-use libc::{STDIN_FILENO, STDOUT_FILENO};
 use lines::line::tally_line;
 use state::settings::Settings;
 use state::state::State;
+use std::io;
+use std::io::{Read, Stdin, Stdout};
 use text::buffer::LINE;
 
 // The bytes that are read: one more than the 64 blocks of the largest file, so that a longer input is refused with 1.
 const INPUT: usize = 32769;
+
+// Reads until the slice is full or the input ends; how many bytes were read.
+fn read_full(mut stdin: Stdin, bytes: &mut [u8]) -> io::Result<usize>
+    ensures { IfOk result (λ n. n ≤ length bytes.new) }
+{
+    let mut done = 0;
+    while done < bytes.len() {
+        let n = stdin.read(&mut bytes[done..])?;
+        if n == 0 {
+            break;
+        }
+        done += n;
+    }
+    Ok(done)
+}
 
 // The run of a file and its line: 1,024 words of X and 1,024 of Y, zeros, reset state, no correction, trap word 0, budget 100,000.
 fn tally(file: &[u8], out: &mut [u8; LINE]) -> usize
@@ -26,16 +42,16 @@ fn tally(file: &[u8], out: &mut [u8; LINE]) -> usize
 }
 
 // The beginning of a text on standard output, so many bytes of it.
-fn print_start(text: [u8; LINE], size: usize)
+fn print_start(stdout: Stdout, text: [u8; LINE], size: usize) -> io::Result<()>
     requires { size ≤ 640 }
 {
-    io::write_all(STDOUT_FILENO, &text[0..size]);
+    stdout.write_all(&text[0..size])
 }
 
-fn main() {
+fn main(rt: HostRuntime) -> io::Result<()> {
     let mut file = [0u8; INPUT];
     let mut text = [0u8; LINE];
-    let size = io::read_full(STDIN_FILENO, &mut file);
+    let size = read_full(rt.stdin(), &mut file)?;
     let n = tally(&file[0..size], &mut text);
-    print_start(text, n);
+    print_start(rt.stdout(), text, n)
 }
