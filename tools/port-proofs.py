@@ -305,6 +305,10 @@ def turn_file(path, crate, data, all_clauses, say):
         body = "\n".join(d["rest"])
         b = re.match(rf"\s*{re.escape(d['name'])}\s*([^=]*?)\s*=(.*)$", body, re.S)
         binders, rest = b[1].split(), b[2]
+        if len(binders) < len(found[1]) + sum(found[2]):
+            # handles that the older functions did not have
+            own_vars = [(v, ch) for v, ch in zip(found[1], found[2]) if v not in ("stdin", "stdout", "stderr")]
+            found = (found[0], [v for v, _ in own_vars], [ch for _, ch in own_vars])
         moved = [v for v, ch in zip(found[1], found[2]) if ch]
         want = [f"l.initial.{v}" if ch else f"l.{v}" for v, ch in zip(found[1], found[2])] + [f"l.{v}" for v in moved]
         if len(binders) != len(want):
