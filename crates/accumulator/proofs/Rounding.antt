@@ -1,5 +1,5 @@
 -- A rounded store that needed no limiting is within half a unit of the value. Assumes nothing.
-use Rattle.std.proofs.Common.{◌≡◌, ℕ, ◌<◌, ◌≤◌, Bool, true, false, ◌&&◌, ◌||◌, eqb, ltb, ℤ, pos, ◌+ℤ◌, ◌-ℤ◌, ◌*ℤ◌, nat_abs, refl, arith, lit<, ltb-false, ltb-true, eqb-true}
+use Rattle.std.proofs.Common.{◌≡◌, ℕ, ◌≤◌, Bool, true, false, ◌&&◌, ◌||◌, eqb, ltb, ℤ, pos, ◌+ℤ◌, ◌-ℤ◌, ◌*ℤ◌, nat_abs, refl, arith, lit<, ltb-false, ltb-true, eqb-true}
 use lib.Signed.{shr_z}
 use Rattle.integers.specs.Floor.{remainder_of}
 use Rattle.integers.specs.Bits.{low_bits, signed_of}

@@ -1,10 +1,10 @@
 -- How large the numbers are that the rules give: products, kept values, shifted values. Assumes nothing.
-use Rattle.std.proofs.Common.{◌≡◌, ℕ, ◌-◌, ◌*◌, ◌^◌, ◌<◌, ◌≤◌, Bool, true, false, not, ◌&&◌, ℤ, pos, negsuc, ◌*ℤ◌, nat_abs, le_refl, arith, pow_mono}
+use Rattle.std.proofs.Common.{◌≡◌, ℕ, ◌*◌, ◌^◌, ◌<◌, ◌≤◌, Bool, true, false, not, ◌&&◌, ℤ, pos, negsuc, ◌+ℤ◌, ◌-ℤ◌, ◌*ℤ◌, nat_abs, le_refl, arith, pow_mono, w64, SFits}
 use borrow.Author.Tests.{not-true}
 use lib.Signed.{lt_z, le_z, mag_shr}
 use Rattle.integers.specs.Bits.{low_bits, signed_of}
 use Rattle.integers.specs.Range.{outside, nearer, Within}
-use Rattle.integers.proofs.Whole.{whole, size, abs_is, product_le, by_test, both}
+use Rattle.integers.proofs.Whole.{whole, size, sum, less, abs_is, product_le, by_test, both}
 use Rattle.integers.proofs.Ranges.{not_outside, within_inside, nearer_within}
 use Rattle.integers.proofs.Low.{low_size, signed_within}
 use Rattle.accumulator.specs.declared.mode.Mode.{Mode}
@@ -34,10 +34,6 @@ product_size false m n hm hn =
 
 -- ---- kept values
 
-pub bits_le : (m : Mode) (t : Target) → limit_bits m t ≤ 39
-unfolding limit_bits
-bits_le m t = by_test (λ k. k ≤ 39) (saturates m t && not m.accsat) (λ e. omega arith) (λ e. omega arith)
-
 -- a result within the limits has 40 bits
 pub inside_within : (m : Mode) (t : Target) (r : ℤ) → has_left m t r ≡ false → Within 39 r
 unfolding has_left limit_bits
@@ -66,6 +62,14 @@ accumulator_within v e = not_outside 39 v (not-true (outside 39 v) e)
 pub within_accumulator : (v : ℤ) → Within 39 v → is_accumulator v ≡ true
 unfolding is_accumulator
 within_accumulator v h = rw (within_inside 39 v h)
+
+-- sums and differences of such values fit
+module _ (v r : ℤ) (h : Within 39 v) (l : Within 39 r) where
+  pub sum_fits : SFits w64 (v +ℤ r)
+  sum_fits = omega (whole, size v, size r, size (v +ℤ r), sum v r)
+
+  pub difference_fits : SFits w64 (v -ℤ r)
+  difference_fits = omega (whole, size v, size r, size (v -ℤ r), less v r)
 
 -- ---- shifts
 

@@ -4,24 +4,25 @@ ghost use Rattle.integers.specs.Bits.{low_bits, signed_of};
 ghost use Rattle.accumulator.specs.Limit.{limit_bits, has_left, kept_of, overflows, write_of, is_accumulator};
 
 use crate::mode::{Mode, Target};
-use crate::range;
+use crate::range::Width;
 
 // An accumulator: its value and its flags O and S.
-#[derive(Clone, Copy)]
+#[derive(Clone, Copy, Debug, PartialEq, Eq)]
 pub struct Accumulator {
     pub value: i64,
     pub overflow: bool,
     pub saturation: bool,
 }
 
-// The limits are -2^k .. 2^k - 1 with this k.
-fn limit_bits(mode: Mode, target: Target) -> u32
-    ensures { result ≡ limit_bits mode target }
+// The numbers within the limits.
+#[tactic(auto, unfolding(crate::specs::Limit::limit_bits))]
+fn limits(mode: Mode, target: Target) -> Width
+    ensures { result.k ≡ limit_bits mode target }
 {
-    if mode.saturates(target) & !mode.accsat {
-        31
+    if mode.saturates(target) && !mode.accsat {
+        Width { k: 31 }
     } else {
-        39
+        Width { k: 39 }
     }
 }
 
@@ -29,19 +30,14 @@ fn limit_bits(mode: Mode, target: Target) -> u32
 pub fn left(mode: Mode, target: Target, r: i64) -> bool
     ensures { result ≡ has_left mode target r }
 {
-    range::outside(limit_bits(mode, target), r)
+    limits(mode, target).outside(r)
 }
 
 // The low 40 bits of r, read as signed.
 pub fn low40(r: i64) -> i64
     ensures { result ≡ signed_of 40 (low_bits 40 r) }
 {
-    let low = r & 0xff_ffff_ffff;
-    if low < 0x80_0000_0000 {
-        low
-    } else {
-        low - 0x100_0000_0000
-    }
+    (r << 24) >> 24
 }
 
 // The value kept of the exact result r: r itself, the nearer limit, or the low 40 bits.
@@ -50,7 +46,7 @@ pub fn kept(mode: Mode, target: Target, r: i64) -> i64
 {
     if left(mode, target, r) {
         if mode.saturates(target) {
-            range::nearer(limit_bits(mode, target), r)
+            limits(mode, target).nearer(r)
         } else {
             low40(r)
         }
@@ -63,7 +59,7 @@ pub fn kept(mode: Mode, target: Target, r: i64) -> i64
 pub fn overflow(v: i64) -> bool
     ensures { result ≡ overflows v }
 {
-    range::outside(31, v)
+    Width { k: 31 }.outside(v)
 }
 
 // The accumulator after a write of the exact result r.
@@ -82,5 +78,5 @@ pub fn write(before: Accumulator, mode: Mode, target: Target, r: i64) -> Accumul
 pub fn is_accumulator(v: i64) -> bool
     ensures { result ≡ is_accumulator v }
 {
-    !range::outside(39, v)
+    !Width { k: 39 }.outside(v)
 }

@@ -3,14 +3,14 @@ ghost use Rattle.std.specs.Prelude.{◌≡◌};
 ghost use Rattle.accumulator.specs.Mode.{reset_mode, mode_of, is_good_mode, saturates};
 
 // The accumulators.
-#[derive(Clone, Copy)]
+#[derive(Clone, Copy, Debug, PartialEq, Eq)]
 pub enum Target {
     A,
     B,
 }
 
 // The mode word taken apart.
-#[derive(Clone, Copy)]
+#[derive(Clone, Copy, Debug, PartialEq, Eq)]
 pub struct Mode {
     pub unsigned: bool,
     pub sata: bool,
@@ -48,11 +48,14 @@ impl Mode {
     }
 
     // Whether a mode word is good: US is 0 or 1, and the unlisted bits are 0.
+    #[tactic(auto, unfolding(crate::specs::Mode::is_good_mode))]
     pub fn is_good(word: u16) -> bool
         ensures { result ≡ is_good_mode word }
     {
-        ((word >> 14) & 3 == 0)
-            & (((word >> 12) & 3 < 2) & (((word >> 8) & 15 == 0) & ((word >> 2) & 3 == 0)))
+        (word >> 14) & 3 == 0
+            && (word >> 12) & 3 < 2
+            && (word >> 8) & 15 == 0
+            && (word >> 2) & 3 == 0
     }
 
     // Whether an accumulator's saturation is on.

@@ -4,7 +4,7 @@ ghost use Rattle.integers.specs.Bits.{signed_of};
 ghost use Rattle.accumulator.specs.Product.{read_of, product_of, square_of};
 
 // A factor: a word, and whether it is read as unsigned.
-#[derive(Clone, Copy)]
+#[derive(Clone, Copy, Debug, PartialEq, Eq)]
 pub struct Factor {
     pub word: u16,
     pub unsigned: bool,
@@ -14,19 +14,17 @@ pub struct Factor {
 pub fn signed(word: u16) -> i64
     ensures { result ≡ signed_of 16 word }
 {
-    let raised = std::num::wrapping_add_u16(word, 32768);
-    raised as i64 - 32768
+    i64::from(word.cast_signed())
 }
 
 // A factor's number.
 pub fn read(factor: Factor) -> i64
     ensures { result ≡ read_of factor }
 {
-    let word = factor.word;
     if factor.unsigned {
-        word as i64
+        factor.word as i64
     } else {
-        signed(word)
+        signed(factor.word)
     }
 }
 

@@ -2,44 +2,49 @@
 ghost use Rattle.std.specs.Prelude.{◌≡◌, ◌≤◌};
 ghost use Rattle.integers.specs.Range.{lowest, highest, outside, nearer, limited_to};
 
-// The least of them.
-pub fn lowest(k: u32) -> i64
-    requires { k ≤ 39 }
-    ensures { result ≡ lowest k }
-{
-    let power: i64 = 1 << k;
-    0 - power
+// Those of k + 1 bits, read as signed.
+#[derive(Clone, Copy, Debug, PartialEq, Eq)]
+pub struct Width {
+    pub k: u32,
+    pub ghost bound: { k ≤ 39 },
 }
 
-// The greatest of them.
-pub fn highest(k: u32) -> i64
-    requires { k ≤ 39 }
-    ensures { result ≡ highest k }
-{
-    let power: i64 = 1 << k;
-    power - 1
-}
+impl Width {
+    // The least of them.
+    pub fn lowest(self) -> i64
+        ensures { result ≡ lowest self.k }
+    {
+        let power: i64 = 1 << self.k;
+        -power
+    }
 
-// Whether z is none of them.
-pub fn outside(k: u32, z: i64) -> bool
-    requires { k ≤ 39 }
-    ensures { result ≡ outside k z }
-{
-    (z < lowest(k)) | (highest(k) < z)
-}
+    // The greatest of them.
+    pub fn highest(self) -> i64
+        ensures { result ≡ highest self.k }
+    {
+        let power: i64 = 1 << self.k;
+        power - 1
+    }
 
-// Of z outside them, the nearer limit.
-pub fn nearer(k: u32, z: i64) -> i64
-    requires { k ≤ 39 }
-    ensures { result ≡ nearer k z }
-{
-    if z < 0 { lowest(k) } else { highest(k) }
-}
+    // Whether z is none of them.
+    #[tactic(auto, unfolding(integers::specs::Range::outside))]
+    pub fn outside(self, z: i64) -> bool
+        ensures { result ≡ outside self.k z }
+    {
+        z < self.lowest() || self.highest() < z
+    }
 
-// z limited to them.
-pub fn limited_to(k: u32, z: i64) -> i64
-    requires { k ≤ 39 }
-    ensures { result ≡ limited_to k z }
-{
-    if outside(k, z) { nearer(k, z) } else { z }
+    // Of z outside them, the nearer limit.
+    pub fn nearer(self, z: i64) -> i64
+        ensures { result ≡ nearer self.k z }
+    {
+        if z < 0 { self.lowest() } else { self.highest() }
+    }
+
+    // z limited to them.
+    pub fn limited_to(self, z: i64) -> i64
+        ensures { result ≡ limited_to self.k z }
+    {
+        if self.outside(z) { self.nearer(z) } else { z }
+    }
 }

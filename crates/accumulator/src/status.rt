@@ -3,7 +3,7 @@ ghost use Rattle.std.specs.Prelude.{◌≡◌};
 ghost use Rattle.accumulator.specs.Status.{status_of};
 
 // What the status word shows: the flags, whether a loop is active, and whether repeat left is not 0.
-#[derive(Clone, Copy)]
+#[derive(Clone, Copy, Debug, PartialEq, Eq)]
 pub struct Status {
     pub oa: bool,
     pub ob: bool,

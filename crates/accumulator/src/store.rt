@@ -1,23 +1,16 @@
 // The store of an accumulator's value as a word.
 ghost use Rattle.std.specs.Prelude.{◌≡◌};
-ghost use Rattle.integers.specs.Bits.{low_bits};
 ghost use Rattle.accumulator.specs.Store.{truncated_of, is_odd, rounds_up, rounded_of, needs_limiting, stored_word, store_of};
 
 use crate::mode::Mode;
-use crate::range;
+use crate::range::Width;
+use integers::bits::low_word;
 
 // What a store gives: the word, and whether limiting was needed.
-#[derive(Clone, Copy)]
+#[derive(Clone, Copy, Debug, PartialEq, Eq)]
 pub struct Stored {
     pub word: u16,
     pub limiting: bool,
-}
-
-// The low 16 bits of v.
-fn low16(v: i64) -> u16
-    ensures { result ≡ low_bits 16 v }
-{
-    (v & 0xffff) as u16
 }
 
 // Whether q is odd.
@@ -46,7 +39,7 @@ pub fn rounded(mode: Mode, v: i64) -> i64
     ensures { result ≡ rounded_of mode v }
 {
     let q = v >> 16;
-    if rounds_up(mode, q, low16(v)) {
+    if rounds_up(mode, q, low_word(v)) {
         q + 1
     } else {
         q
@@ -57,7 +50,7 @@ pub fn rounded(mode: Mode, v: i64) -> i64
 pub fn needs_limiting(q: i64) -> bool
     ensures { result ≡ needs_limiting q }
 {
-    range::outside(15, q)
+    Width { k: 15 }.outside(q)
 }
 
 // The word stored of the result q.
@@ -65,9 +58,9 @@ pub fn word(mode: Mode, q: i64) -> u16
     ensures { result ≡ stored_word mode q }
 {
     if mode.satdw {
-        low16(range::limited_to(15, q))
+        low_word(Width { k: 15 }.limited_to(q))
     } else {
-        low16(q)
+        low_word(q)
     }
 }
 

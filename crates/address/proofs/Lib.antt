@@ -2,6 +2,7 @@
 pub mod Examples
 pub mod Words
 pub mod Regions
+pub mod Traps
 pub mod Steps
 pub mod Widths
 pub mod Reversals

@@ -5,4 +5,5 @@
 pub mod region;
 pub mod reversal;
 pub mod step;
+pub mod trap;
 pub mod word;

@@ -1,11 +1,14 @@
 // Regions of memory, and the trap of an access outside its region or at an odd address.
-ghost use Rattle.std.specs.Prelude.{◌≡◌, ◌&&◌, ltb, if◌then◌else◌, nat_le, nat_lt};
+ghost use Rattle.std.specs.Prelude.{◌≡◌, ◌<◌, ◌&&◌, ltb, if◌then◌else◌, nat_le, nat_lt, IfOk};
 ghost use Rattle.address.specs.Region.{x_part, y_part, all_words, is_inside, access_trap};
+ghost use Rattle.address.specs.Trap.{trap_code, failed_by};
+ghost use Rattle.address.specs.Word.{word_of};
 
+use crate::trap::Trap;
 use crate::word::{ByteAddress, MEMORY_START, MEMORY_WORDS, WordIndex};
 
 // The words first .. end - 1. `end` is the number of the word after the last, so a count of words may be one.
-#[derive(Clone, Copy)]
+#[derive(Clone, Copy, Debug, PartialEq, Eq)]
 pub struct Region {
     pub first: WordIndex,
     pub end: WordIndex,
@@ -46,45 +49,41 @@ impl Region {
     pub fn has(self, i: WordIndex) -> bool
         ensures { result ≡ (nat_le self.first.0 i.0 && nat_lt i.0 (if ltb self.end.0 30720 then self.end.0 else 30720)) }
     {
-        let first = self.first.0;
-        let end = self.end.0;
-        let at = i.0;
-        let most = if end < MEMORY_WORDS {
-            end
+        self.first.0 <= i.0 && i.0 < self.end.0.min(MEMORY_WORDS)
+    }
+
+    // The word of an access at a, or its trap: an odd address before one outside the region.
+    pub fn access(self, a: ByteAddress) -> Result<WordIndex, Trap>
+        ensures trap { failed_by result ≡ access_trap self a.0 }
+        ensures word { IfOk result (λ i. (i.0 ≡ word_of a.0) × (i.0 < self.end.0)) }
+    {
+        let i = a.aligned_word();
+        if self.has(i) {
+            return Ok(i);
+        }
+        if a.0 % 2 == 1 {
+            Err(Trap::OddAddress)
         } else {
-            MEMORY_WORDS
-        };
-        (first <= at) & (at < most)
+            Err(Trap::OutsideRegion)
+        }
     }
 }
 
 // Whether a lies in a word of the region. The word is asked for only where there is one.
+#[tactic(auto, unfolding(crate::specs::Region::is_inside))]
 pub fn inside(region: Region, a: ByteAddress) -> bool
     ensures { result ≡ is_inside region a.0 }
 {
-    let first = region.first.0;
-    let end = region.end.0;
-    let start = MEMORY_START.0;
-    let at = a.0;
-    if start <= at {
-        let i = a.word();
-        let w = i.0;
-        (first <= w) & (w < end)
-    } else {
-        false
+    if a.0 < MEMORY_START.0 {
+        return false;
     }
+    let i = a.word();
+    region.first.0 <= i.0 && i.0 < region.end.0
 }
 
-// The trap of an access at a: 1 odd address, 2 outside its region, 0 none.
-pub fn trap(region: Region, a: ByteAddress) -> u8
-    ensures { result ≡ access_trap region a.0 }
+// The trap of an access at a, if it has one.
+pub fn trap(region: Region, a: ByteAddress) -> Option<Trap>
+    ensures { trap_code result ≡ access_trap region a.0 }
 {
-    let at = a.0;
-    if region.has(a.aligned_word()) {
-        0
-    } else if at % 2 == 1 {
-        1
-    } else {
-        2
-    }
+    region.access(a).err()
 }

@@ -3,11 +3,11 @@ ghost use Rattle.std.specs.Prelude.{◌≡◌, ℕ, ◌<◌};
 ghost use Rattle.address.specs.Word.{address_of, word_of};
 
 // The address of a byte of memory, as a register holds it.
-#[derive(Clone, Copy)]
+#[derive(Clone, Copy, Debug, PartialEq, Eq)]
 pub struct ByteAddress(pub u16);
 
 // The number of a word of memory.
-#[derive(Clone, Copy)]
+#[derive(Clone, Copy, Debug, PartialEq, Eq)]
 pub struct WordIndex(pub usize);
 
 // The address of word 0.
@@ -17,14 +17,12 @@ pub const MEMORY_START: ByteAddress = ByteAddress(0x1000);
 pub const MEMORY_WORDS: usize = 30720;
 
 impl ByteAddress {
-    // The word at an aligned address, an even one from word 0 on; of any other a number past all words, by the lowest bit for the highest.
+    // The word at an aligned address, an even one from word 0 on; of any other a number past all words, by the lowest bit for the highest. No Option: by_index is a clause over a number.
     pub fn aligned_word(self) -> WordIndex
         ensures self_value { result.0 < 30720 → self.0 ≡ address_of result.0 }
         ensures by_index { (i : ℕ) → self.0 ≡ address_of i → result.0 ≡ i }
     {
-        let a = self.0;
-        let start = MEMORY_START.0;
-        let far = std::num::wrapping_sub_u16(a, start);
+        let far = self.0.wrapping_sub(MEMORY_START.0);
         let half = far / 2 + far % 2 * 32768;
         WordIndex(half as usize)
     }
@@ -33,13 +31,9 @@ impl ByteAddress {
     pub fn word(self) -> WordIndex
         ensures { result.0 ≡ word_of self.0 }
     {
-        let a = self.0;
-        let start = MEMORY_START.0;
-        if a < start {
-            WordIndex(0)
-        } else {
-            let even = a - a % 2;
-            ByteAddress(even).aligned_word()
+        if self.0 < MEMORY_START.0 {
+            return WordIndex(0);
         }
+        ByteAddress(self.0 - self.0 % 2).aligned_word()
     }
 }

@@ -1,18 +1,17 @@
 // The operation that 8 bytes are.
-ghost use Rattle.std.specs.Prelude.{◌≡◌, ◌+◌, ◌*◌};
+ghost use Rattle.std.specs.Prelude.{◌≡◌};
 ghost use Rattle.operations.specs.Decode.{target_of, action_of, prefetch_of, write_back_of, mac_of, arithmetic_of, post_of, operand_of, transfer_of, move_of};
-ghost use Rattle.operations.specs.Decode.{control_operation_of, operation_of, listed_if, decode_of};
-ghost use Rattle.operations.specs.Listed.{is_listed};
+ghost use Rattle.operations.specs.Decode.{control_operation_of, operation_of, decode_of};
 
-use crate::bytes::is_same;
 use crate::encode::encode;
 use crate::listed::is_listed;
 use accumulator::mode::Target;
-use operations::decode::Decoded;
 use operations::operation::{
     Action, MacClass, Operand, Operation, PostModification, Prefetch, WriteBack,
 };
 
+// A byte read as a target; `action_of`, `write_back_of` and `post_of` read theirs so. They read every byte, as the definitions of these names do, of types of
+// another crate: a TryFrom would refuse what the definition does not.
 fn target_of(b1: u8) -> Target
     ensures { result ≡ target_of b1 }
 {
@@ -63,21 +62,16 @@ fn write_back_of(b6: u8) -> WriteBack
 fn mac_of(b: [u8; 8]) -> Operation
     ensures { result ≡ mac_of b }
 {
-    let action = action_of(b[0]);
-    let target = target_of(b[1]);
-    let x = prefetch_of(b[3], 12);
-    let y = prefetch_of(b[4], 13);
-    let back = write_back_of(b[6]);
     Operation::MacClass(MacClass {
-        action,
-        target,
+        action: action_of(b[0]),
+        target: target_of(b[1]),
         m: b[2] % 16,
         n: b[2] / 16,
-        x,
+        x: prefetch_of(b[3], 12),
         xto: b[5] % 16,
-        y,
+        y: prefetch_of(b[4], 13),
         yto: b[5] / 16,
-        back,
+        back: write_back_of(b[6]),
     })
 }
 
@@ -86,12 +80,11 @@ fn arithmetic_of(b: [u8; 8]) -> Operation
     ensures { result ≡ arithmetic_of b }
 {
     let target = target_of(b[1]);
-    let by = b[3];
     match b[0] {
         8 => Operation::AddAccumulators { target },
         9 => Operation::Subtract { target },
         10 => Operation::Negate { target },
-        _ => Operation::Shift { target, by },
+        _ => Operation::Shift { target, by: b[3] },
     }
 }
 
@@ -110,13 +103,12 @@ fn post_of(form: u8) -> PostModification
 fn operand_of(register: u8, form: u8) -> Operand
     ensures { result ≡ operand_of register form }
 {
-    let post = post_of(form);
     if form == 0 {
         Operand::Register(register)
     } else {
         Operand::Memory {
             pointer: register,
-            post,
+            post: post_of(form),
         }
     }
 }
@@ -152,19 +144,12 @@ fn transfer_of(b: [u8; 8]) -> Operation
     }
 }
 
-// Two bytes as a word, low byte first.
-fn word_from(low: u8, high: u8) -> u16
-    ensures { result ≡ low + 256 * high }
-{
-    low as u16 + 256 * (high as u16)
-}
-
 // Kinds 16 to 18.
 fn move_of(b: [u8; 8]) -> Operation
     ensures { result ≡ move_of b }
 {
     let register = b[1];
-    let value = word_from(b[2], b[3]);
+    let value = u16::from_le_bytes([b[2], b[3]]);
     let pointer = b[3];
     let post = post_of(b[4]);
     match b[0] {
@@ -190,8 +175,8 @@ fn control_operation_of(b: [u8; 8]) -> Operation
     ensures { result ≡ control_operation_of b }
 {
     let register = b[1];
-    let first = word_from(b[2], b[3]);
-    let last = word_from(b[4], b[5]);
+    let first = u16::from_le_bytes([b[2], b[3]]);
+    let last = u16::from_le_bytes([b[4], b[5]]);
     match b[0] {
         19 => Operation::Repeat { count: first },
         20 => Operation::RepeatRegister { register },
@@ -204,48 +189,24 @@ fn control_operation_of(b: [u8; 8]) -> Operation
 }
 
 // The operation that 8 bytes are, if they are one.
+#[tactic(auto, unfolding(operations::specs::Decode::operation_of))]
 pub fn operation_of(b: [u8; 8]) -> Operation
     ensures { result ≡ operation_of b }
 {
-    let kind = b[0];
-    if kind <= 7 {
-        return mac_of(b);
-    }
-    if kind <= 11 {
-        return arithmetic_of(b);
-    }
-    if kind <= 15 {
-        return transfer_of(b);
-    }
-    if kind <= 18 {
-        return move_of(b);
-    }
-    control_operation_of(b)
-}
-
-// The operation that 8 bytes are, if every field is in its range.
-fn in_range(b: [u8; 8]) -> Decoded
-    ensures { result ≡ listed_if (is_listed (operation_of b)) (operation_of b) }
-{
-    let operation = operation_of(b);
-    if is_listed(operation) {
-        Decoded::Listed(operation)
-    } else {
-        Decoded::Refused
+    match b[0] {
+        0..=7 => mac_of(b),
+        8..=11 => arithmetic_of(b),
+        12..=15 => transfer_of(b),
+        16..=18 => move_of(b),
+        _ => control_operation_of(b),
     }
 }
 
 // 8 bytes taken as an operation: every field is in its range, and every byte that the operation does not use is 0.
-pub fn decode(b: [u8; 8]) -> Decoded
+#[tactic(auto, using(operations::proofs::Same::same_bytes), unfolding(operations::specs::Decode::decode_of))]
+pub fn decode(b: [u8; 8]) -> Option<Operation>
     ensures { result ≡ decode_of b }
 {
-    let Decoded::Listed(operation) = in_range(b) else {
-        return Decoded::Refused;
-    };
-    let again = encode(operation);
-    if is_same(again, b) {
-        Decoded::Listed(operation)
-    } else {
-        Decoded::Refused
-    }
+    let operation = operation_of(b);
+    (is_listed(operation) && encode(operation) == b).then_some(operation)
 }

@@ -1,37 +1,10 @@
 // The 8 bytes of an operation.
 ghost use Rattle.std.specs.Prelude.{◌≡◌};
-ghost use Rattle.operations.specs.Encode.{target_byte, action_byte, nibbles, prefetch_byte, write_back_byte, mac_bytes, pointer_byte, post_byte, form_byte};
+ghost use Rattle.operations.specs.Encode.{nibbles, prefetch_byte, mac_bytes, pointer_byte, form_byte};
 ghost use Rattle.operations.specs.Encode.{operand_bytes, pointer_bytes, word_bytes, encode_of};
 
 use accumulator::mode::Target;
-use operations::operation::{
-    Action, MacClass, Operand, Operation, PostModification, Prefetch, WriteBack,
-};
-
-// The target: 0 A, 1 B.
-fn target_byte(target: Target) -> u8
-    ensures { result ≡ target_byte target }
-{
-    match target {
-        Target::A => 0,
-        Target::B => 1,
-    }
-}
-
-// The kind of an action, 1 to 7.
-pub fn action_byte(action: Action) -> u8
-    ensures { result ≡ action_byte action }
-{
-    match action {
-        Action::Clr => 1,
-        Action::Mpy => 2,
-        Action::Mac => 3,
-        Action::Msc => 4,
-        Action::Ed => 5,
-        Action::Edac => 6,
-        Action::Movsac => 7,
-    }
-}
+use operations::operation::{MacClass, Operand, Operation, PostModification, Prefetch};
 
 // Two nibbles in a byte.
 fn nibble_byte(low: u8, high: u8) -> u8
@@ -51,33 +24,24 @@ fn prefetch_byte(prefetch: Prefetch, sum: u8) -> u8
     }
 }
 
-fn write_back_byte(back: WriteBack) -> u8
-    ensures { result ≡ write_back_byte back }
-{
-    match back {
-        WriteBack::None => 0,
-        WriteBack::Register => 1,
-        WriteBack::Memory => 2,
-    }
-}
-
 // Kinds 1 to 7.
 fn mac_bytes(mac: MacClass) -> [u8; 8]
     ensures { result ≡ mac_bytes mac }
 {
-    let action = mac.action;
-    let target = mac.target;
-    let x = mac.x;
-    let y = mac.y;
-    let back = mac.back;
-    let b0 = action_byte(action);
-    let b1 = target_byte(target);
     let b2 = nibble_byte(mac.m, mac.n);
-    let b3 = prefetch_byte(x, 12);
-    let b4 = prefetch_byte(y, 13);
+    let b3 = prefetch_byte(mac.x, 12);
+    let b4 = prefetch_byte(mac.y, 13);
     let b5 = nibble_byte(mac.xto, mac.yto);
-    let b6 = write_back_byte(back);
-    [b0, b1, b2, b3, b4, b5, b6, 0]
+    [
+        mac.action as u8,
+        mac.target as u8,
+        b2,
+        b3,
+        b4,
+        b5,
+        mac.back as u8,
+        0,
+    ]
 }
 
 // The register of an operand.
@@ -86,18 +50,7 @@ fn pointer_byte(operand: Operand) -> u8
 {
     match operand {
         Operand::Register(register) => register,
-        Operand::Memory { pointer, post: _ } => pointer,
-    }
-}
-
-// The form of a pointer: 1 memory, 2 memory then + 2, 3 memory then - 2.
-fn post_byte(post: PostModification) -> u8
-    ensures { result ≡ post_byte post }
-{
-    match post {
-        PostModification::None => 1,
-        PostModification::Increment => 2,
-        PostModification::Decrement => 3,
+        Operand::Memory { pointer, .. } => pointer,
     }
 }
 
@@ -107,7 +60,7 @@ fn form_byte(operand: Operand) -> u8
 {
     match operand {
         Operand::Register(_) => 0,
-        Operand::Memory { pointer: _, post } => post_byte(post),
+        Operand::Memory { post, .. } => post as u8,
     }
 }
 
@@ -115,46 +68,38 @@ fn form_byte(operand: Operand) -> u8
 fn operand_bytes(kind: u8, target: Target, shift: u8, operand: Operand) -> [u8; 8]
     ensures { result ≡ operand_bytes kind target shift operand }
 {
-    let b1 = target_byte(target);
     let b3 = pointer_byte(operand);
     let b4 = form_byte(operand);
-    [kind, b1, shift, b3, b4, 0, 0, 0]
+    [kind, target as u8, shift, b3, b4, 0, 0, 0]
 }
 
 // Kinds 17 and 18.
 fn pointer_bytes(kind: u8, register: u8, pointer: u8, post: PostModification) -> [u8; 8]
     ensures { result ≡ pointer_bytes kind register pointer post }
 {
-    let b4 = post_byte(post);
-    [kind, register, 0, pointer, b4, 0, 0, 0]
+    [kind, register, 0, pointer, post as u8, 0, 0, 0]
 }
 
 // A kind with b1, a word in b2-3 and one in b4-5.
 fn word_bytes(kind: u8, b1: u8, first: u16, second: u16) -> [u8; 8]
     ensures { result ≡ word_bytes kind b1 first second }
 {
-    [
-        kind,
-        b1,
-        (first % 256) as u8,
-        (first / 256) as u8,
-        (second % 256) as u8,
-        (second / 256) as u8,
-        0,
-        0,
-    ]
+    let [b2, b3] = first.to_le_bytes();
+    let [b4, b5] = second.to_le_bytes();
+    [kind, b1, b2, b3, b4, b5, 0, 0]
 }
 
 // The 8 bytes of an operation.
+#[tactic(auto, unfolding(operations::specs::Encode::encode_of))]
 pub fn encode(operation: Operation) -> [u8; 8]
     ensures { result ≡ encode_of operation }
 {
     match operation {
         Operation::MacClass(mac) => mac_bytes(mac),
-        Operation::AddAccumulators { target } => word_bytes(8, target_byte(target), 0, 0),
-        Operation::Subtract { target } => word_bytes(9, target_byte(target), 0, 0),
-        Operation::Negate { target } => word_bytes(10, target_byte(target), 0, 0),
-        Operation::Shift { target, by } => [11, target_byte(target), 0, by, 0, 0, 0, 0],
+        Operation::AddAccumulators { target } => word_bytes(8, target as u8, 0, 0),
+        Operation::Subtract { target } => word_bytes(9, target as u8, 0, 0),
+        Operation::Negate { target } => word_bytes(10, target as u8, 0, 0),
+        Operation::Shift { target, by } => [11, target as u8, 0, by, 0, 0, 0, 0],
         Operation::Lac {
             target,
             shift,

@@ -2,7 +2,6 @@
 // Each contract says that the answer is what a definition of operations gives.
 #![tactic(auto)]
 
-mod bytes;
 pub mod decode;
 pub mod encode;
 pub mod listed;

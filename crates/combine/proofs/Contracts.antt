@@ -4,9 +4,11 @@ use mathlib.Core.Bool.{false}
 use mathlib.Core.List.{List}
 use mathlib.Core.Path.{◌≡◌, sym, ap, ◌∙◌}
 use lib.IntN.{pos}
+use Rattle.std.specs.Prelude.{Result as Answer, Ok}
 use Rattle.accumulator.specs.Mode.{mode_of}
 use Rattle.accumulator.specs.declared.limit.Accumulator.{Accumulator}
 use Rattle.program.specs.File.{program_of}
+use Rattle.program.specs.declared.answer.Refusal.{Refusal}
 use Rattle.state.specs.declared.state.State.{State}
 use Rattle.runs.specs.Run.{Result}
 use Rattle.runs.specs.Engine.{Engine}
@@ -16,8 +18,6 @@ use Rattle.combine.specs.Boards.{board_of, board_at}
 use Rattle.combine.specs.Dot.{Pair, dot_of, BoardCall, pairs_on, CallFits, holds_stray}
 use Rattle.combine.specs.Call.{Cut, HandsOver, Combines}
 use Rattle.combine.specs.declared.board.Board.{Board}
-use Rattle.combine.specs.declared.call.Combined.{Combined}
-use Rattle.combine.specs.declared.call.Combined.TheVariants.{Sum}
 use Rattle.combine.proofs.Stretches.{stretch_exact}
 use Rattle.combine.proofs.Checked.{checked_fits}
 
@@ -46,11 +46,11 @@ pub record Summed (mode : ℕ) (whole : List Pair) (sum : Accumulator) : Type 0 
   pub count : ℕ
   pub cut : ℕ → ℕ
   pub call : ℕ → BoardCall
-  pub answer : Combined
+  pub answer : Answer Accumulator Refusal
   pub combines : Combines boards count mode answer
   pub parts : Cut whole cut call count
   pub handed : (i : ℕ) → i < count → HandsOver mode (board_at boards i) (call i)
-  pub is : answer ≡ Sum sum
+  pub is : answer ≡ Ok sum
   pub clear : sum.saturation ≡ false
 
 pub summed_exact : (mode : ℕ) (whole : List Pair) (sum : Accumulator) → Summed mode whole sum → sum.value ≡ dot_of (mode_of mode).integer whole

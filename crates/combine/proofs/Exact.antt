@@ -5,7 +5,7 @@ use mathlib.Core.List.{List, [], ◌++◌}
 use mathlib.Core.Path.{◌≡◌, refl, sym, ap, ◌∙◌}
 use native.Mathlib.Nat.{le_refl}
 use native.Mathlib.Omega.{arith}
-use lib.IntN.{◌+ℤ◌, +ℤ_idl}
+use lib.IntN.{+ℤ_idl}
 use lib.ListN.{take}
 use lib.Seq.{take-add, take-length}
 use Rattle.integers.proofs.Whole.{neither}

@@ -2,6 +2,7 @@ pub mod SumExamples
 pub mod StretchExamples
 pub mod CutExamples
 pub mod Boards
+pub mod Fronts
 pub mod Works
 pub mod Stretches
 pub mod Exact

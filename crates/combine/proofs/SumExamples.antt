@@ -5,21 +5,22 @@ use mathlib.Core.List.{List, [], ◌∷◌}
 use mathlib.Core.Path.{◌≡◌, refl}
 use lib.IntN.{ℤ, pos}
 use lib.ListN.{replicate}
+use Rattle.std.specs.Prelude.{Result, Ok, Err}
 use Rattle.integers.specs.Floor.{remainder_of}
 use Rattle.integers.specs.Bits.{low_bits, signed_of}
 use Rattle.integers.specs.Range.{minus, lowest, highest, outside, nearer}
 use Rattle.accumulator.specs.Mode.{mode_of, is_good_mode, saturates}
 use Rattle.accumulator.specs.Limit.{limit_bits, has_left, kept_of, overflows, write_of, is_accumulator}
-use Rattle.combine.specs.Boards.{are_accumulators, any_set, added, added_up, combined_of, combine_refusal, combine_of}
+use Rattle.accumulator.specs.declared.limit.Accumulator.{Accumulator}
+use Rattle.program.specs.declared.answer.Refusal.{Refusal}
+use Rattle.combine.specs.Boards.{numbered, are_accumulators, any_set, added, added_up, combined_of, combine_refusal, combine_of}
 use Rattle.combine.specs.Call.{Combines}
 use Rattle.combine.specs.declared.board.Board.{Board}
-use Rattle.combine.specs.declared.call.Combined.{Combined}
-use Rattle.combine.specs.declared.call.Combined.TheVariants.{Sum, Refused}
 
 -- ---- how the examples are written
 
 -- the call's answer, with all that it comes to opened
-unfoldable pub combined : List Board → ℕ → ℕ → Combined
+unfoldable pub combined : List Board → ℕ → ℕ → Result Accumulator ℕ
 unfolding combine_of combine_refusal are_accumulators combined_of added_up added any_set mode_of is_good_mode is_accumulator saturates limit_bits has_left kept_of overflows
     write_of remainder_of low_bits signed_of lowest highest outside nearer
 combined boards count mode = combine_of boards count mode
@@ -32,8 +33,8 @@ abbrev three : ℤ → ℤ → ℤ → List Board
 three a b c = board a false ∷ board b false ∷ board c false ∷ []
 
 -- A, OA and SA
-abbrev pub sum : ℤ → Bool → Bool → Combined
-sum a oa sa = Sum (record { value = a; overflow = oa; saturation = sa })
+abbrev pub sum : {E : Type 0} → ℤ → Bool → Bool → Result Accumulator E
+sum a oa sa = Ok (record { value = a; overflow = oa; saturation = sa })
 
 -- the largest number of 32 bits
 abbrev top : ℕ
@@ -88,24 +89,29 @@ eight = refl
 
 -- 13 for 0, 1 and 9 boards, before 14 and 7; 14 at 2^39 and -2^39 - 1, before 7; 7; a board past the count is not looked at
 refusals :
-    (combined (three (pos 1) (pos 2) (pos 3)) 0 0x01 ≡ Refused 13)
-    × (combined (three (pos (2 ^ 39)) (pos 0) (pos 0)) 1 0x04 ≡ Refused 13)
-    × (combined (replicate 8 (board (pos (2 ^ 39)) false)) 9 0x01 ≡ Refused 13)
-    × (combined (replicate 8 (board (pos 1) false)) 9 0x01 ≡ Refused 13)
-    × (combined (three (pos 0) (pos (2 ^ 39)) (pos 0)) 2 0x04 ≡ Refused 14)
-    × (combined (three (minus (2 ^ 39 + 1)) (pos 0) (pos 0)) 2 0x01 ≡ Refused 14)
-    × (combined (three (pos 0) (pos 0) (pos (2 ^ 39))) 2 0x04 ≡ Refused 7)
-    × (combined (three (pos 0) (pos 0) (pos (2 ^ 39))) 2 0x3001 ≡ Refused 7)
+    (combined (three (pos 1) (pos 2) (pos 3)) 0 0x01 ≡ Err 13)
+    × (combined (three (pos (2 ^ 39)) (pos 0) (pos 0)) 1 0x04 ≡ Err 13)
+    × (combined (replicate 8 (board (pos (2 ^ 39)) false)) 9 0x01 ≡ Err 13)
+    × (combined (replicate 8 (board (pos 1) false)) 9 0x01 ≡ Err 13)
+    × (combined (three (pos 0) (pos (2 ^ 39)) (pos 0)) 2 0x04 ≡ Err 14)
+    × (combined (three (minus (2 ^ 39 + 1)) (pos 0) (pos 0)) 2 0x01 ≡ Err 14)
+    × (combined (three (pos 0) (pos 0) (pos (2 ^ 39))) 2 0x04 ≡ Err 7)
+    × (combined (three (pos 0) (pos 0) (pos (2 ^ 39))) 2 0x3001 ≡ Err 7)
     × (combined (three (minus (2 ^ 39)) (pos (2 ^ 39 - 1)) (pos (2 ^ 39))) 2 0x01 ≡ sum (minus 1) false false)
 unfolding combined
 refusals = (refl, refl, refl, refl, refl, refl, refl, refl, refl)
 
 -- ---- what the contract says of these calls
 
-told : (r : Combined) → Combines (board (pos 1) false ∷ board (pos 2) false ∷ []) 2 0x01 r → r ≡ sum (pos 3) false false
-unfolding combined
-told r h = h.answer
+sum_told : (r : Result Accumulator Refusal) (x : Accumulator) → numbered r ≡ Ok x → r ≡ Ok x
+sum_told (Ok y) x e = cc
+sum_told (Err r) x e = cc
 
-told_refused : (r : Combined) → Combines [] 1 0x04 r → r ≡ Refused 13
+told : (r : Result Accumulator Refusal) → Combines (board (pos 1) false ∷ board (pos 2) false ∷ []) 2 0x01 r
+    → r ≡ Ok (record { value = pos 3; overflow = false; saturation = false })
+unfolding combined
+told r h = sum_told r _ h.answer
+
+told_refused : (r : Result Accumulator Refusal) → Combines [] 1 0x04 r → numbered r ≡ Err 13
 unfolding combined
 told_refused r h = h.answer

@@ -1,15 +1,14 @@
 -- The boards' sums, added through the accumulator rules into one A.
-use Rattle.std.specs.Prelude.{ℕ, zero, suc, Bool, true, false, cond, ◌&&◌, ◌||◌, List, ltb, ℤ, pos, ◌+ℤ◌, get_or}
+use Rattle.std.specs.Prelude.{ℕ, zero, suc, Bool, true, false, cond, ◌&&◌, ◌||◌, List, ltb, ℤ, pos, ◌+ℤ◌, get_or, Result, Ok, Err}
 use Rattle.accumulator.specs.Mode.{mode_of, is_good_mode}
 use Rattle.accumulator.specs.Limit.{write_of, is_accumulator}
 use Rattle.accumulator.specs.declared.limit.Accumulator.{Accumulator}
 use Rattle.accumulator.specs.declared.mode.Mode.{Mode}
 use Rattle.accumulator.specs.declared.mode.Target.TheVariants.{A}
-use Rattle.program.specs.Answer.{◌then◌, if_accepted}
+use Rattle.program.specs.Answer.{refusal_number, ◌then◌, if_accepted}
+use Rattle.program.specs.declared.answer.Refusal.{Refusal}
 use Rattle.state.specs.declared.state.State.{State}
 use Rattle.combine.specs.declared.board.Board.{Board}
-use Rattle.combine.specs.declared.call.Combined.{Combined}
-use Rattle.combine.specs.declared.call.Combined.TheVariants.{Sum, Refused}
 
 -- ---- the boards
 
@@ -61,8 +60,13 @@ unfoldable pub combine_refusal : List Board → ℕ → ℕ → ℕ
 combine_refusal boards count mode =
     cond (ltb count 2 || ltb 8 count) 13 0 then cond (are_accumulators boards count) 0 14 then cond (is_good_mode mode) 0 7
 
+-- an answer with its refusal by number
+abbrev pub numbered : Result Accumulator Refusal → Result Accumulator ℕ
+numbered (Ok sum) = Ok sum
+numbered (Err r) = Err (refusal_number r)
+
 -- the sum, or the refusal
-unfoldable pub combine_of : List Board → ℕ → ℕ → Combined
+unfoldable pub combine_of : List Board → ℕ → ℕ → Result Accumulator ℕ
 combine_of boards count mode =
     let refusal = combine_refusal boards count mode in
-    if_accepted refusal (Sum (combined_of (mode_of mode) boards count)) (Refused refusal)
+    if_accepted refusal (Ok (combined_of (mode_of mode) boards count)) (Err refusal)

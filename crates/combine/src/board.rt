@@ -5,7 +5,7 @@ ghost use Rattle.combine.specs.Boards.{no_board, board_of};
 use state::state::State;
 
 // A and SA at the end of a board's run.
-#[derive(Clone, Copy)]
+#[derive(Clone, Copy, Debug, PartialEq, Eq)]
 pub struct Board {
     pub a: i64,
     pub sa: bool,

@@ -1,5 +1,5 @@
 // The boards' A, added up.
-ghost use Rattle.std.specs.Prelude.{true, ◌≡◌, ◌≤◌};
+ghost use Rattle.std.specs.Prelude.{true, ◌≡◌, length};
 ghost use Rattle.accumulator.specs.Limit.{is_accumulator};
 ghost use Rattle.combine.specs.Boards.{are_accumulators, any_set, added, combined_of};
 
@@ -7,35 +7,18 @@ use crate::board::Board;
 use accumulator::limit::{Accumulator, is_accumulator, write};
 use accumulator::mode::{Mode, Target};
 
-// Whether each of the first boards has an A of 40 bits.
-pub fn are_accumulators(boards: [Board; 8], count: usize) -> bool
-    requires { count ≤ 8 }
-    ensures { result ≡ are_accumulators boards count }
+// Whether each board has an A of 40 bits.
+pub fn are_accumulators(boards: &[Board]) -> bool
+    ensures { result ≡ are_accumulators boards.now (length boards.now) }
 {
-    let mut good = true;
-    let mut i: usize = 0;
-    while i < count {
-        let board = boards[i];
-        let a = board.a;
-        good = good & is_accumulator(a);
-        i += 1;
-    }
-    good
+    boards.iter().all(|board| is_accumulator(board.a))
 }
 
-// Whether any of the first boards has its SA set.
-fn any_set(boards: [Board; 8], count: usize) -> bool
-    requires { count ≤ 8 }
-    ensures { result ≡ any_set boards count }
+// Whether any board has its SA set.
+fn any_set(boards: &[Board]) -> bool
+    ensures { result ≡ any_set boards.now (length boards.now) }
 {
-    let mut set = false;
-    let mut i: usize = 0;
-    while i < count {
-        let board = boards[i];
-        set = set | board.sa;
-        i += 1;
-    }
-    set
+    boards.iter().any(|board| board.sa)
 }
 
 // One board's A is added, through the accumulator rules for A.
@@ -44,27 +27,22 @@ fn add(before: Accumulator, mode: Mode, a: i64) -> Accumulator
     requires a_value { is_accumulator a ≡ true }
     ensures { result ≡ added before mode a }
 {
-    let r = before.value + a;
-    write(before, mode, Target::A, r)
+    write(before, mode, Target::A, before.value + a)
 }
 
-// The first boards' A in order, from 0; SA starts set if any board's was.
-pub fn add_up(boards: [Board; 8], count: usize, mode: Mode) -> Accumulator
-    requires count_bound { count ≤ 8 }
-    requires count_value { are_accumulators boards count ≡ true }
-    ensures { result ≡ combined_of mode boards count }
+// The boards' A in order, from 0; SA starts set if any board's was.
+#[tactic(auto, using(crate::proofs::Boards::added_accumulator), unfolding(crate::specs::Boards::added_up, crate::specs::Boards::combined_of))]
+pub fn add_up(boards: &[Board], mode: Mode) -> Accumulator
+    requires { are_accumulators boards.now (length boards.now) ≡ true }
+    ensures { result ≡ combined_of mode boards.now (length boards.now) }
 {
     let mut sum = Accumulator {
         value: 0,
         overflow: false,
-        saturation: any_set(boards, count),
+        saturation: any_set(boards),
     };
-    let mut i: usize = 0;
-    while i < count {
-        let board = boards[i];
-        let a = board.a;
-        sum = add(sum, mode, a);
-        i += 1;
+    for board in boards {
+        sum = add(sum, mode, board.a);
     }
     sum
 }

@@ -3,24 +3,26 @@ ghost use Rattle.std.specs.Prelude.{◌<◌, ◌^◌};
 
 use address::step::{Buffer, sum};
 use address::word::{ByteAddress, MEMORY_START};
-use text::text::magnitude;
+use text::check::next_check;
+use text::magnitude::magnitude;
 
 // The number drawn after x: 48,271 x modulo 2^31 - 1.
 pub fn after(x: u64) -> u64 {
     x % 2147483647 * 48271 % 2147483647
 }
 
-// The check h with the number v: (31 h + v) modulo 2^32.
-pub fn checked(h: u64, v: u64) -> u64 {
-    (h % 4294967296 * 31 + v % 4294967296) % 4294967296
+// The check h with the number v, modulo 2^32.
+pub fn checked(h: u32, v: u64) -> u32 {
+    next_check(h, (v % 4294967296) as u32)
 }
 
 // The check with a signed number: whether it is below zero, then its magnitude.
-pub fn checked_signed(h: u64, v: i64) -> u64 {
+pub fn checked_signed(h: u32, v: i64) -> u32 {
     checked(checked_flag(h, v < 0), magnitude(v))
 }
 
-pub fn checked_flag(h: u64, b: bool) -> u64 {
+// The check with a flag.
+pub fn checked_flag(h: u32, b: bool) -> u32 {
     checked(h, b as u64)
 }
 
@@ -43,8 +45,7 @@ pub fn bit(x: u64) -> bool {
 fn limit_near(y: u64) -> u64
     ensures { result < 2 ^ 42 }
 {
-    let k = y % 4;
-    match k {
+    match y % 4 {
         0 => 0x100_8000_0000,
         1 => 0xff_8000_0000,
         2 => 0x180_0000_0000,
@@ -78,33 +79,12 @@ pub fn amount(x: u64) -> i64 {
 
 // A step of -6 .. 6, even.
 pub fn step(x: u64) -> i16 {
-    let c = x / 8 % 7;
-    match c {
-        0 => -6,
-        1 => -4,
-        2 => -2,
-        3 => 0,
-        4 => 2,
-        5 => 4,
-        _ => 6,
-    }
+    2 * (x / 8 % 7) as i16 - 6
 }
 
 // N, a power of two 2 .. 1,024.
 pub fn power(x: u64) -> u16 {
-    let k = x / 8 % 10;
-    match k {
-        0 => 2,
-        1 => 4,
-        2 => 8,
-        3 => 16,
-        4 => 32,
-        5 => 64,
-        6 => 128,
-        7 => 256,
-        8 => 512,
-        _ => 1024,
-    }
+    2 << (x / 8 % 10)
 }
 
 // Where buffers begin: low in memory, or so that they end at FFFF hex at most.

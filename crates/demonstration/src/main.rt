@@ -3,7 +3,6 @@
 #![tactic(auto)]
 
 mod draw;
-mod print;
 mod rows;
 mod rules;
 mod sweep;

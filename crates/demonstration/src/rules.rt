@@ -9,7 +9,7 @@ use address::region::{Region, trap};
 use address::word::ByteAddress;
 use address::{reversal, step};
 
-pub fn product_case(h: u64, x: u64, y: u64) -> u64 {
+pub fn product_case(h: u32, x: u64, y: u64) -> u32 {
     let mode = Mode::of(draw::mode_word(x));
     let m = Factor {
         word: draw::word(x),
@@ -23,7 +23,7 @@ pub fn product_case(h: u64, x: u64, y: u64) -> u64 {
     draw::checked_signed(g, product::square(mode.integer, n))
 }
 
-pub fn write_case(h: u64, x: u64, y: u64) -> u64 {
+pub fn write_case(h: u32, x: u64, y: u64) -> u32 {
     let mode = Mode::of(draw::mode_word(y));
     let before = Accumulator {
         value: 0,
@@ -39,7 +39,7 @@ pub fn write_case(h: u64, x: u64, y: u64) -> u64 {
     draw::checked_flag(f, left)
 }
 
-pub fn store_case(h: u64, x: u64, y: u64) -> u64 {
+pub fn store_case(h: u32, x: u64, y: u64) -> u32 {
     let mode = Mode::of(draw::mode_word(x));
     let v = draw::stored(x, y);
     let rounded = store::store(mode, true, v);
@@ -48,18 +48,16 @@ pub fn store_case(h: u64, x: u64, y: u64) -> u64 {
     draw::checked_flag(draw::checked(g, truncated.word as u64), truncated.limiting)
 }
 
-pub fn shift_case(h: u64, x: u64, y: u64) -> u64 {
+pub fn shift_case(h: u32, x: u64, y: u64) -> u32 {
     let v = draw::result(x, y);
     let n = draw::amount(x);
-    if limit::is_accumulator(v) {
-        if shift::is_allowed(n) {
-            return draw::checked_signed(h, shift::shift(v, n));
-        }
+    if !limit::is_accumulator(v) || !shift::is_allowed(n) {
+        return h;
     }
-    h
+    draw::checked_signed(h, shift::shift(v, n))
 }
 
-pub fn status_case(h: u64, x: u64, y: u64) -> u64 {
+pub fn status_case(h: u32, x: u64, y: u64) -> u32 {
     let status = Status {
         oa: x % 2 == 1,
         ob: x / 2 % 2 == 1,
@@ -71,20 +69,28 @@ pub fn status_case(h: u64, x: u64, y: u64) -> u64 {
     draw::checked(h, status.word() as u64)
 }
 
-pub fn mode_case(h: u64, x: u64) -> u64 {
+pub fn mode_case(h: u32, x: u64) -> u32 {
     draw::checked_flag(h, Mode::is_good(draw::word(x)))
 }
 
-pub fn trap_case(h: u64, x: u64, y: u64) -> u64 {
+// The trap of an access, 0 none.
+fn trap_number(region: Region, a: ByteAddress) -> u64 {
+    match trap(region, a) {
+        Some(t) => t.number() as u64,
+        None => 0,
+    }
+}
+
+pub fn trap_case(h: u32, x: u64, y: u64) -> u32 {
     let a = draw::early(x);
     let part = (y % 30) as usize;
     let words = part + (y / 32 % 30) as usize;
-    let g = draw::checked(h, trap(Region::x_part(part), a) as u64);
-    let f = draw::checked(g, trap(Region::y_part(part, words), a) as u64);
-    draw::checked(f, trap(Region::all(words), a) as u64)
+    let g = draw::checked(h, trap_number(Region::x_part(part), a));
+    let f = draw::checked(g, trap_number(Region::y_part(part, words), a));
+    draw::checked(f, trap_number(Region::all(words), a))
 }
 
-pub fn step_case(h: u64, x: u64, y: u64) -> u64 {
+pub fn step_case(h: u32, x: u64, y: u64) -> u32 {
     let buffer = draw::buffer(x, y);
     let old = draw::beside(buffer, y);
     let by = draw::step(x);
@@ -93,7 +99,7 @@ pub fn step_case(h: u64, x: u64, y: u64) -> u64 {
     draw::checked(draw::checked(h, plain.0 as u64), circular.0 as u64)
 }
 
-pub fn reversal_case(h: u64, x: u64, y: u64) -> u64 {
+pub fn reversal_case(h: u32, x: u64, y: u64) -> u32 {
     let next = reversal::next(draw::power(x), ByteAddress(draw::word(y)));
     draw::checked(h, next.0 as u64)
 }

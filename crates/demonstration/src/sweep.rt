@@ -1,57 +1,74 @@
 // For each rule a check over many drawn cases.
-use crate::{draw, print, rules};
+use crate::{draw, rules};
 use std::io;
 use std::io::Stdout;
 
-// One case of a rule, by the rule's number.
-fn case_of(rule: u8, h: u64, x: u64, y: u64) -> u64 {
-    match rule {
-        0 => rules::product_case(h, x, y),
-        1 => rules::write_case(h, x, y),
-        2 => rules::store_case(h, x, y),
-        3 => rules::shift_case(h, x, y),
-        4 => rules::status_case(h, x, y),
-        5 => rules::mode_case(h, x),
-        6 => rules::trap_case(h, x, y),
-        7 => rules::step_case(h, x, y),
-        _ => rules::reversal_case(h, x, y),
-    }
-}
-
-// The check over n cases of a rule, with numbers drawn from 1 on.
-fn check_of(rule: u8, n: u32) -> u64 {
-    let mut h: u64 = 0;
+// The check over 20,000 cases of a rule, with numbers drawn from 1 on. A rule takes the check so far and two drawn numbers.
+fn check_of<F: Fn(u32, u64, u64) -> u32>(rule: F) -> u32
+    requires { F.IsAlwaysCallable rule }
+{
+    let mut h: u32 = 0;
     let mut x: u64 = 1;
-    let mut left = n;
-    while 0 < left {
+    for _ in 0..20000 {
         let y = draw::after(x);
         x = draw::after(y);
-        h = case_of(rule, h, y, x);
-        left -= 1;
+        h = rule(h, y, x);
     }
     h
 }
 
-fn print_check(stdout: Stdout, name: &[u8], rule: u8) -> io::Result<()> {
-    print::text(stdout, name)?;
-    print::text(stdout, b" 20000 ")?;
-    print::number(stdout, check_of(rule, 20000))?;
-    print::text(stdout, b"\n")
+// The line of a rule's check.
+fn print_check(stdout: Stdout, name: &str, check: u32) -> io::Result<()> {
+    println!(stdout; "{name} 20000 {check}")
 }
 
+// The rules of accumulators.
 fn print_accumulator_checks(stdout: Stdout) -> io::Result<()> {
-    print_check(stdout, b"product", 0)?;
-    print_check(stdout, b"write", 1)?;
-    print_check(stdout, b"store", 2)?;
-    print_check(stdout, b"shift", 3)?;
-    print_check(stdout, b"status", 4)?;
-    print_check(stdout, b"mode", 5)
+    print_check(
+        stdout,
+        "product",
+        check_of(|h, x, y| rules::product_case(h, x, y)),
+    )?;
+    print_check(
+        stdout,
+        "write",
+        check_of(|h, x, y| rules::write_case(h, x, y)),
+    )?;
+    print_check(
+        stdout,
+        "store",
+        check_of(|h, x, y| rules::store_case(h, x, y)),
+    )?;
+    print_check(
+        stdout,
+        "shift",
+        check_of(|h, x, y| rules::shift_case(h, x, y)),
+    )?;
+    print_check(
+        stdout,
+        "status",
+        check_of(|h, x, y| rules::status_case(h, x, y)),
+    )?;
+    print_check(stdout, "mode", check_of(|h, x, _| rules::mode_case(h, x)))
 }
 
+// The rules of addresses.
 fn print_address_checks(stdout: Stdout) -> io::Result<()> {
-    print_check(stdout, b"trap", 6)?;
-    print_check(stdout, b"step", 7)?;
-    print_check(stdout, b"reversal", 8)
+    print_check(
+        stdout,
+        "trap",
+        check_of(|h, x, y| rules::trap_case(h, x, y)),
+    )?;
+    print_check(
+        stdout,
+        "step",
+        check_of(|h, x, y| rules::step_case(h, x, y)),
+    )?;
+    print_check(
+        stdout,
+        "reversal",
+        check_of(|h, x, y| rules::reversal_case(h, x, y)),
+    )
 }
 
 pub fn print_checks(stdout: Stdout) -> io::Result<()> {

@@ -2,7 +2,7 @@
 use crate::access::Access;
 
 // The X read, the Y read and the write.
-#[derive(Clone, Copy)]
+#[derive(Clone, Copy, Debug, PartialEq, Eq)]
 pub struct Accesses {
     pub x: Access,
     pub y: Access,

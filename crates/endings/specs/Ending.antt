@@ -1,5 +1,6 @@
 -- The endings of a run; the names, numbers and codes of endings.
 use Rattle.std.specs.Prelude.{ℕ, ◌+◌, ◌-◌, ◌/◌, ◌%◌, Bool, true, cond, ◌&&◌, List, [], ◌∷◌, ◌++◌, ltb, leb, length, replicate}
+use Rattle.std.specs.Fmt.{decimal}
 use Rattle.endings.specs.declared.ending.Ending.{Ending}
 use Rattle.endings.specs.declared.ending.Ending.TheVariants.{Done, Spent, Trap, Refused}
 
@@ -35,6 +36,13 @@ name_of Done = filled_to 9 (100 ∷ 111 ∷ 110 ∷ 101 ∷ [])
 name_of Spent = filled_to 9 (115 ∷ 112 ∷ 101 ∷ 110 ∷ 116 ∷ [])
 name_of (Trap n) = filled_to 9 ((116 ∷ 114 ∷ 97 ∷ 112 ∷ []) ++ decimal_of n)
 name_of (Refused n) = filled_to 9 ((114 ∷ 101 ∷ 102 ∷ 117 ∷ 115 ∷ 101 ∷ 100 ∷ []) ++ decimal_of n)
+
+-- done, spent, trap and its number, refused and its number, in ASCII, the number in decimal with all its digits
+abbrev pub text_of : Ending → List ℕ
+text_of Done = 100 ∷ 111 ∷ 110 ∷ 101 ∷ []
+text_of Spent = 115 ∷ 112 ∷ 101 ∷ 110 ∷ 116 ∷ []
+text_of (Trap n) = (116 ∷ 114 ∷ 97 ∷ 112 ∷ []) ++ decimal n
+text_of (Refused n) = (114 ∷ 101 ∷ 102 ∷ 117 ∷ 115 ∷ 101 ∷ 100 ∷ []) ++ decimal n
 
 -- a code of two hex digits: 00 done, 10 spent, 2n trap n, 3n refusal n
 unfoldable pub code_of : Ending → ℕ

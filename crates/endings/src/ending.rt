@@ -1,10 +1,12 @@
 // How a run ends.
-ghost use Rattle.std.specs.Prelude.{◌≡◌};
-ghost use Rattle.endings.specs.Ending.{digit_of, decimal_of, filled_to, name_of, number_of, code_of};
+ghost use Rattle.std.specs.Prelude.{◌≡◌, Some};
+ghost use Rattle.endings.specs.Ending.{digit_of, decimal_of, filled_to, name_of, text_of, number_of, code_of};
+
+use std::fmt;
 
 // Done: pc is the count of operations. Spent: the budget's steps are made. Trap: its number, 1 to 7. Refused: its number, 1 to 7 of a run; names have
-// room for two digits.
-#[derive(Clone, Copy)]
+// room for two digits. The numbers are no enums: name_of and its worked names speak of numbers that no trap and no refusal has.
+#[derive(Clone, Copy, Debug, PartialEq, Eq)]
 pub enum Ending {
     Done,
     Spent,
@@ -12,14 +14,15 @@ pub enum Ending {
     Refused(u8),
 }
 
-// A number's last digit.
+// A number's last digit. It, `decimal` and `name` stand beside Display: the clause of `name` promises nine bytes, with zeros.
 fn digit(n: u8) -> u8
     ensures { result ≡ digit_of n }
 {
-    48 + n % 10
+    b'0' + n % 10
 }
 
 // A number in decimal; a zero follows a single digit.
+#[tactic(auto, unfolding(crate::specs::Ending::decimal_of))]
 fn decimal(n: u8) -> [u8; 2]
     ensures { result ≡ filled_to 2 (decimal_of n) }
 {
@@ -32,18 +35,18 @@ fn decimal(n: u8) -> [u8; 2]
 
 impl Ending {
     // The number of a trap or a refusal, 0 for the others.
+    #[tactic(auto, unfolding(crate::specs::Ending::number_of))]
     pub fn number(self) -> u8
         ensures { result ≡ number_of self }
     {
         match self {
-            Ending::Done => 0,
-            Ending::Spent => 0,
-            Ending::Trap(n) => n,
-            Ending::Refused(n) => n,
+            Ending::Done | Ending::Spent => 0,
+            Ending::Trap(n) | Ending::Refused(n) => n,
         }
     }
 
     // One byte for an ending, two hex digits: 00 done, 10 spent, 2n trap n, 3n refusal n.
+    #[tactic(auto, unfolding(crate::specs::Ending::code_of))]
     pub fn code(self) -> u8
         ensures { result ≡ code_of self }
     {
@@ -63,13 +66,27 @@ impl Ending {
             Ending::Done => *b"done\0\0\0\0\0",
             Ending::Spent => *b"spent\0\0\0\0",
             Ending::Trap(n) => {
-                let d = decimal(n);
-                [116, 114, 97, 112, d[0], d[1], 0, 0, 0]
+                let [tens, ones] = decimal(n);
+                [b't', b'r', b'a', b'p', tens, ones, 0, 0, 0]
             }
             Ending::Refused(n) => {
-                let d = decimal(n);
-                [114, 101, 102, 117, 115, 101, 100, d[0], d[1]]
+                let [tens, ones] = decimal(n);
+                [b'r', b'e', b'f', b'u', b's', b'e', b'd', tens, ones]
             }
+        }
+    }
+}
+
+// The name, with its number in decimal.
+impl fmt::Display for Ending {
+    ghost output = { λ e. Some (text_of e) };
+
+    fn fmt<W: fmt::Write>(&self, f: &mut fmt::Formatter<W>) -> fmt::Result {
+        match *self {
+            Ending::Done => write!(f, "done"),
+            Ending::Spent => write!(f, "spent"),
+            Ending::Trap(n) => write!(f, "trap{n}"),
+            Ending::Refused(n) => write!(f, "refused{n}"),
         }
     }
 }

@@ -13,3 +13,4 @@ pub mod Endings
 pub mod Calls
 pub mod Windows
 pub mod OneStep
+pub mod LastOnes

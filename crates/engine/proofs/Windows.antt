@@ -32,7 +32,7 @@ use Rattle.machine.proofs.Calls.{if_refused, call_most}
 use Rattle.endings.specs.Ending.{number_of}
 use Rattle.endings.specs.declared.ending.Ending.TheVariants.{Refused}
 use Rattle.runs.specs.Engine.{engine_run}
-use Rattle.legs.specs.Leg.{Window}
+use Rattle.legs.specs.Leg.{ShowsWords}
 use Rattle.legs.proofs.Fits.{file_listed}
 use Rattle.engine.specs.Call.{result_of}
 use Rattle.engine.specs.Decoded.{decoded_refusal, RunsDecoded}
@@ -65,7 +65,7 @@ module _ (file code old : List ℕ) (accepted : file_refusal file ≡ 0) (decode
   holds : Holds code p
   holds = over_holds p code old decoded
 
-  pub whole_window : Window p code 0 (operation_count file)
+  pub whole_window : ShowsWords p code 0 (operation_count file)
   whole_window =
       let count : length p ≡ operation_count file = program_length file accepted in
       record {
@@ -81,7 +81,7 @@ module _ (file code old : List ℕ) (accepted : file_refusal file ≡ 0) (decode
 -- ---- the words of one operation are a window on it
 
 pub one_window : (file code old : List ℕ) (i : ℕ) → file_refusal file ≡ 0 → i < operation_count file
-    → code ≡ over (words_for (get_or (program_of file) i EndEarly)) old → Window (program_of file) code i 1
+    → code ≡ over (words_for (get_or (program_of file) i EndEarly)) old → ShowsWords (program_of file) code i 1
 one_window file code old i accepted l decoded =
     let p = program_of file in
     let count : length p ≡ operation_count file = program_length file accepted in
@@ -99,7 +99,7 @@ one_window file code old i accepted l decoded =
 
 -- no operation
 
-pub none_window : (file words : List ℕ) → file_refusal file ≡ 0 → Window (program_of file) words 0 0
+pub none_window : (file words : List ℕ) → file_refusal file ≡ 0 → ShowsWords (program_of file) words 0 0
 none_window file words accepted =
     let count : length (program_of file) ≡ operation_count file = program_length file accepted in
     record {

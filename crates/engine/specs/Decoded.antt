@@ -14,8 +14,8 @@ use Rattle.engine.specs.declared.outcome.Outcome.{Outcome}
 
 -- refusals 1 to 7 of a run, then 8 for a slice of fewer than 16 words for each operation
 unfoldable pub decoded_refusal : List ℕ → Settings → State → ℕ → ℕ → ℕ
-decoded_refusal file settings s memory_words sliceWords =
-    call_refusal file settings s memory_words then room_refusal (16 * operation_count file) sliceWords
+decoded_refusal file settings s memory_words slice_words =
+    call_refusal file settings s memory_words then room_refusal (16 * operation_count file) slice_words
 
 -- what the call's outcome r, the memory after it and the slice after it are promised to be; the slice came as `lent`
 pub record RunsDecoded (file : List ℕ) (settings : Settings) (s : State) (memory : List ℕ) (budget : ℕ) (lent : List ℕ) (r : Outcome) (after slice : List ℕ) : Type 0 where

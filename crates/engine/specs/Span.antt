@@ -5,13 +5,13 @@ use Rattle.stepping.specs.Turned.{Held}
 use Rattle.runs.specs.Run.{Result}
 use Rattle.runs.specs.Run.Stop.{ended}
 use Rattle.runs.specs.Engine.{Engine}
-use Rattle.legs.specs.Leg.{Window, engine_in, ending_of}
+use Rattle.legs.specs.Leg.{ShowsWords, engine_in, ending_of}
 use Rattle.legs.specs.declared.leg.Leg.{Leg}
 use Rattle.engine.specs.declared.run.Span.{Span}
 
 -- the words are those of the file's operations in a span
 abbrev pub Covers : List ℕ → List ℕ → Span → Type 0
-Covers file words at = Window (program_of file) words at.first at.count
+Covers file words at = ShowsWords (program_of file) words at.first at.count
 
 -- all operations of the file
 abbrev pub whole_of : List ℕ → Span

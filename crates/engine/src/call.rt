@@ -19,9 +19,8 @@ pub fn run(
 ) -> Outcome
     ensures { Runs file.now settings state memory.old budget result memory.new }
 {
-    let number = refusal(file, settings, state, memory.len());
-    if number != 0 {
-        return refused(number, state);
+    if let Err(why) = refusal(file, settings, state, memory.len()) {
+        return refused(why.number(), state);
     }
     let mut words = [0u16; 16];
     let none = Span { first: 0, count: 0 };

@@ -21,9 +21,8 @@ pub fn run_decoded(
 ) -> Outcome
     ensures { RunsDecoded file.now settings state memory.old budget words.old result memory.new words.new }
 {
-    let number = refusal(file, settings, state, memory.len());
-    if number != 0 {
-        return refused(number, state);
+    if let Err(why) = refusal(file, settings, state, memory.len()) {
+        return refused(why.number(), state);
     }
     let count = operation_count(file);
     if words.len() < 16 * count {

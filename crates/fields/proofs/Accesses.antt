@@ -6,6 +6,8 @@ use mathlib.Core.List.{List}
 use native.Mathlib.Omega.{arith}
 use borrow.Author.Tests.{eq-eqb, ne_eqb, eqb-false}
 use lib.Dec.{eqb}
+use Rattle.std.specs.Prelude.{Result}
+use Rattle.address.specs.declared.trap.Trap.{Trap}
 use Rattle.operations.specs.Decode.{write_back_of}
 use Rattle.operations.specs.declared.operation.WriteBack.TheVariants.{None as NoWriteBack, Register as ToRegister, Memory as ToMemory}
 use Rattle.operations.specs.declared.operation.Prefetch.TheVariants.{Pointer, Sum}
@@ -18,13 +20,12 @@ use Rattle.effects.specs.declared.pointer.Change.{Change}
 use Rattle.effects.specs.declared.pointer.Change.TheVariants.{None as NoChange, To}
 use Rattle.form.specs.Words.{prefetch_in}
 use Rattle.fields.specs.Carried.{Reads}
-use Rattle.fields.specs.declared.read.Read.{Read}
 
 -- ---- a prefetch by its two words
 
 -- there is one
 module _ (s : Settings) (space : Space) (r c sum words : ℕ) (w : List ℕ) (some : r ≡ 0 → ⊥) where
-  pub prefetch_reads : (memory : List ℕ) (x : Read) (a : ℕ) → a ≡ register w r
+  pub prefetch_reads : (memory : List ℕ) (x : Result ℕ Trap) (a : ℕ) → a ≡ register w r
       → ((w' : List ℕ) (change : Change) → Reads x (access_at (region_of s words space) (cond (eqb r sum) (sum_address space w) a) change) w' memory)
       → Reads x (prefetch_access s space (prefetch_in r c sum) w words) w memory
   unfolding prefetch_access

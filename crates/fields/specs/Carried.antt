@@ -1,9 +1,11 @@
 -- What an operation leaves once its one store is done, before its exact result is limited.
-use Rattle.std.specs.Prelude.{ℕ, Bool, true, cond, List, ◌≡◌, ℤ, pos, get_or}
+use Rattle.std.specs.Prelude.{ℕ, true, Option, Some, None, Result, Ok, Err, IfOk, List, ◌≡◌, ℤ, pos, get_or}
 use Rattle.accumulator.specs.Limit.{is_accumulator}
 use Rattle.accumulator.specs.Mode.{mode_of}
 use Rattle.accumulator.specs.declared.mode.Mode.{Mode}
 use Rattle.accumulator.specs.declared.mode.Target.{Target}
+use Rattle.address.specs.Trap.{failed_by}
+use Rattle.address.specs.declared.trap.Trap.{Trap}
 use Rattle.operations.specs.Decode.{target_of}
 use Rattle.state.specs.declared.settings.Settings.{Settings}
 use Rattle.state.specs.declared.state.Core.{Core}
@@ -12,13 +14,9 @@ use Rattle.effects.specs.Effect.{Work}
 use Rattle.effects.specs.Operations.{work_of}
 use Rattle.effects.specs.declared.access.Access.{Access}
 use Rattle.effects.specs.declared.effect.Exact.{Exact}
-use Rattle.effects.specs.declared.pointer.Purpose.{Purpose}
-use Rattle.effects.specs.declared.pointer.Purpose.TheVariants.{Read as Reading, Store as Storing}
 use Rattle.effects.specs.declared.effect.Exact.TheVariants.{Keep, Replace}
 use Rattle.machine.specs.Write.{value_word, put_register, put_memory}
 use Rattle.form.specs.Words.{field, coded_at}
-use Rattle.fields.specs.declared.carry.Carry.{Carry}
-use Rattle.fields.specs.declared.read.Read.{Read}
 
 -- ---- by the definitions
 
@@ -56,12 +54,27 @@ core_with c w acc =
       ob = c.ob;
     }
 
+-- the exact result for the accumulator that the operation names, if there is one
+abbrev pub exact_of : Target → Option ℤ → Exact
+exact_of t (Some r) = Replace t r
+exact_of t None = Keep
+
+-- with a trap there is none
+abbrev pub exact_in : Target → Result (Option ℤ) Trap → Exact
+exact_in t (Ok r) = exact_of t r
+exact_in t (Err trap) = Keep
+
+-- an answer that has a result whenever it has no trap
+abbrev pub always : Result ℤ Trap → Result (Option ℤ) Trap
+always (Ok r) = Ok (Some r)
+always (Err trap) = Err trap
+
 -- what the code leaves and answers
-abbrev pub carried_in : List ℕ → List ℕ → Target → Carry → Carried
-carried_in w memory t r = record { w = w; memory = memory; trap = r.trap; exact = cond r.writes (Replace t r.r) Keep }
+abbrev pub carried_in : List ℕ → List ℕ → Target → Result (Option ℤ) Trap → Carried
+carried_in w memory t r = record { w = w; memory = memory; trap = failed_by r; exact = exact_in t r }
 
 -- the operation at `at` is carried out by a mode word, whatever the rest of the core: registers w and memory become w' and memory'
-abbrev pub Carries : Settings → ℕ → List ℕ → ℕ → List ℤ → List ℕ → List ℕ → List ℕ → List ℕ → Carry → Type 0
+abbrev pub Carries : Settings → ℕ → List ℕ → ℕ → List ℤ → List ℕ → List ℕ → List ℕ → List ℕ → Result (Option ℤ) Trap → Type 0
 Carries settings mode code at acc w memory w' memory' r =
     (c : Core)
     → carried_in w' memory' (target_of (field code at 1)) r
@@ -77,10 +90,6 @@ pub record Accumulators (acc : List ℤ) : Type 0 where
 -- ---- reads
 
 -- a read's trap, and its word where there is none, are an access's
-pub record Reads (r : Read) (access : Access) (w memory : List ℕ) : Type 0 where
-  pub trap : r.trap ≡ access.trap
-  pub word : r.trap ≡ 0 → r.word ≡ word_at access.place w memory
-
--- what an operand is accessed for: a store, or a read
-abbrev pub purpose_of : Bool → Purpose
-purpose_of stores = cond stores Storing Reading
+pub record Reads (r : Result ℕ Trap) (access : Access) (w memory : List ℕ) : Type 0 where
+  pub trap : failed_by r ≡ access.trap
+  pub word : IfOk r (λ x. x ≡ word_at access.place w memory)

@@ -4,12 +4,14 @@ ghost use Rattle.operations.specs.Decode.{write_back_of};
 ghost use Rattle.state.specs.State.{register};
 ghost use Rattle.effects.specs.Access.{prefetch_access, back_access, changed};
 ghost use Rattle.effects.specs.Pointer.{moved_of, step_of};
-ghost use Rattle.effects.specs.declared.access.Space.TheVariants.{X, Y};
 ghost use Rattle.form.specs.Words.{prefetch_in};
+ghost use Rattle.fields.specs.Space.{sum_word};
 
 use crate::registers::set_register;
+use crate::space::{circular_for, sum_word};
 use address::step::{circular, stepped};
 use address::word::ByteAddress;
+use effects::access::Space;
 use state::settings::{Circular, Settings};
 
 // The address a of register r, stepped: corrected in the circular register alone.
@@ -41,25 +43,21 @@ pub fn step_pointer(circle: Circular, r: u16, a: ByteAddress, c: u16, w: &mut [u
     set_register(w, r, to.0);
 }
 
-// The pointer of an X read, word 4, steps by word 5, where there is one; a is what it held.
-pub fn step_x(settings: Settings, x: u16, a: ByteAddress, c: u16, w: &mut [u16; 14])
-    requires x_bound { x < 14 }
+// The pointer of a prefetch, word 4 or 6, steps by word 5 or 7, where there is one; a is what it held.
+pub fn step_prefetch(
+    space: Space,
+    settings: Settings,
+    r: u16,
+    a: ByteAddress,
+    c: u16,
+    w: &mut [u16; 14],
+)
+    requires r_bound { r < 14 }
     requires c_bound { c < 16 }
-    ensures { (old : List ℕ) (words : ℕ) → register old x ≡ a.0 → w.new ≡ changed (prefetch_access settings X (prefetch_in x c 12) old words).change w.old }
+    ensures { (old : List ℕ) (words : ℕ) → register old r ≡ a.0 → w.new ≡ changed (prefetch_access settings space (prefetch_in r c (sum_word space)) old words).change w.old }
 {
-    if (x != 0) & (x != 12) {
-        step_pointer(settings.x, x, a, c, w);
-    }
-}
-
-// The pointer of a Y read, word 6, steps by word 7, where there is one; a is what it held.
-pub fn step_y(settings: Settings, y: u16, a: ByteAddress, c: u16, w: &mut [u16; 14])
-    requires y_bound { y < 14 }
-    requires c_bound { c < 16 }
-    ensures { (old : List ℕ) (words : ℕ) → register old y ≡ a.0 → w.new ≡ changed (prefetch_access settings Y (prefetch_in y c 13) old words).change w.old }
-{
-    if (y != 0) & (y != 13) {
-        step_pointer(settings.y, y, a, c, w);
+    if (r != 0) & (r != sum_word(space)) {
+        step_pointer(circular_for(settings, space), r, a, c, w);
     }
 }
 

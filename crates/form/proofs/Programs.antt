@@ -1,5 +1,5 @@
 -- A program's words: what they are operation by operation. Assumes nothing.
-use Prim.Native.Nat.{ℕ, zero, suc, ◌+◌, ◌-◌, ◌*◌, ◌<◌}
+use Prim.Native.Nat.{ℕ, zero, suc, ◌+◌, ◌*◌, ◌<◌}
 use mathlib.Core.Path.{◌≡◌, refl, sym, ap, ◌∙◌}
 use mathlib.Core.Bool.{true}
 use mathlib.Core.List.{List, [], ◌∷◌, ◌++◌, append_assoc, append-nil}
@@ -15,7 +15,7 @@ use Rattle.program.specs.Bytes.{over}
 use Rattle.program.specs.Accept.{operations_refusal, fields_refusal}
 use Rattle.program.specs.Answer.{first_of}
 use Rattle.program.specs.File.{blocks_refusal, operation_count, file_refusal}
-use Rattle.program.specs.Layout.{bytes_of, operation_in as operationInBytes, operations_in}
+use Rattle.program.specs.Layout.{bytes_of, operation_in as operation_in_bytes, operations_in}
 use Rattle.program.specs.Placement.{is_placed}
 use Rattle.program.specs.declared.layout.Layout.TheVariants.{Blocks}
 use Rattle.program.proofs.Answers.{then_first, then_second, first_none}
@@ -76,7 +76,7 @@ module _ (file : List ℕ) (accepted : file_refusal file ≡ 0) where
   pub first_length : (i : ℕ) → length (form_of (operations_in Blocks file i)) ≡ 16 * i
   first_length i = form_length (operations_in Blocks file i) ∙ rw (operations_length Blocks file i)
 
-  pub bytes_again : (i : ℕ) → i < operation_count file → words_for (operationInBytes Blocks file i) ≡ words_of_bytes (bytes_of Blocks file i)
+  pub bytes_again : (i : ℕ) → i < operation_count file → words_for (operation_in_bytes Blocks file i) ≡ words_of_bytes (bytes_of Blocks file i)
   unfolding file_refusal operations_refusal words_for
   bytes_again i l =
       let n : ℕ = operation_count file in
@@ -88,4 +88,4 @@ module _ (file : List ℕ) (accepted : file_refusal file ≡ 0) where
   -- one more
   pub first_more : (i : ℕ) → i < operation_count file
       → form_of (operations_in Blocks file (i + 1)) ≡ form_of (operations_in Blocks file i) ++ words_of_bytes (bytes_of Blocks file i)
-  first_more i l = rw add-one (form_more (operations_in Blocks file i) (operationInBytes Blocks file i) ∙ rw (bytes_again i l))
+  first_more i l = rw add-one (form_more (operations_in Blocks file i) (operation_in_bytes Blocks file i) ∙ rw (bytes_again i l))

@@ -19,7 +19,7 @@ use Rattle.integers.proofs.Low.{remainder_up, remainder_down}
 -- ---- masks
 
 -- the bits of a whole number, by m that divides 2^64
-bits_remainder : (z : ℤ) (m n : ℕ) → 0 < m → n * m ≡ 2 ^ 64 → SFits w64 z → of_z w64 z % m ≡ nat_abs (remainder_of z m)
+pub bits_remainder : (z : ℤ) (m n : ℕ) → 0 < m → n * m ≡ 2 ^ 64 → SFits w64 z → of_z w64 z % m ≡ nat_abs (remainder_of z m)
 bits_remainder (pos a) m n h e f = sym (remainder_up a m h)
 bits_remainder (negsuc a) m n h e f =
     let x = nat_abs (remainder_of (negsuc a) m) in

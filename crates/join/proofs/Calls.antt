@@ -114,12 +114,12 @@ module _ (first second : List ℕ) (h : Joinable first second (operation_count f
 
 -- ---- the premises of exact sums and of exact even after overflow: the joined program holds what one of its parts holds
 
-joined_holds : (isSuch : Operation → Bool) → ((n : ℕ) (o : Operation) → isSuch (moved_operation n o) ≡ isSuch o)
-    → (p q : List Operation) → holds isSuch (joined p q) ≡ (holds isSuch p || holds isSuch q)
+joined_holds : (is_such : Operation → Bool) → ((n : ℕ) (o : Operation) → is_such (moved_operation n o) ≡ is_such o)
+    → (p q : List Operation) → holds is_such (joined p q) ≡ (holds is_such p || holds is_such q)
 unfolding joined
-joined_holds isSuch same p q =
-    holds_append isSuch p (map (moved_operation (length p)) q)
-    ∙ ap (λ (t : Bool). holds isSuch p || t) (holds_map isSuch (moved_operation (length p)) (same (length p)) q)
+joined_holds is_such same p q =
+    holds_append is_such p (map (moved_operation (length p)) q)
+    ∙ ap (λ (t : Bool). holds is_such p || t) (holds_map is_such (moved_operation (length p)) (same (length p)) q)
 
 pub joined_clears : (p q : List Operation) → holds_clear (joined p q) ≡ (holds_clear p || holds_clear q)
 joined_clears = joined_holds (λ o. clears (control_of o)) (λ n o. ap clears (moved_control n o))

@@ -4,12 +4,13 @@ use mathlib.Core.Bool.{true, false}
 use mathlib.Core.List.{List}
 use mathlib.Core.Path.{◌≡◌, sym, subst, ap, ◌∙◌}
 use lib.ListN.{length, drop}
+use Rattle.std.specs.Prelude.{Result as Answered}
 use lib.Seq.{drop_at}
 use Rattle.operations.specs.declared.operation.Operation.{Operation}
 use Rattle.program.specs.Answer.{answer_number, answer_bytes}
 use Rattle.program.specs.Bytes.{over}
 use Rattle.program.specs.File.{operation_count, program_of}
-use Rattle.program.specs.declared.answer.Answer.{Answer}
+use Rattle.program.specs.declared.answer.Refusal.{Refusal}
 use Rattle.state.specs.State.{restarted_state}
 use Rattle.state.specs.Typed.{AreWords, Typed}
 use Rattle.state.specs.declared.settings.Settings.{Settings}
@@ -31,12 +32,12 @@ use Rattle.join.proofs.Calls.{begun_refusal}
 -- ---- the lent slice
 
 -- on a refusal it stays, and no byte is written
-pub refused_stays : (first second out : List ℕ) (answer : Answer) (after : List ℕ) (k : ℕ) → join_refusal first second (length out) ≡ suc k
+pub refused_stays : (first second out : List ℕ) (answer : Answered ℕ Refusal) (after : List ℕ) (k : ℕ) → join_refusal first second (length out) ≡ suc k
     → Joins first second out answer after → (answer_number answer ≡ suc k) × (answer_bytes answer ≡ 0) × (after ≡ out)
 refused_stays first second out answer after k some made =
     (made.filled.number ∙ some, rw some at made.filled.bytes, rw some at made.filled.content)
 
-module _ (first second out : List ℕ) (answer : Answer) (after : List ℕ) (none : join_refusal first second (length out) ≡ 0)
+module _ (first second out : List ℕ) (answer : Answered ℕ Refusal) (after : List ℕ) (none : join_refusal first second (length out) ≡ 0)
     (made : Joins first second out answer after) where
   -- else what lies past the joined file stays
   pub rest_stays : (answer_number answer ≡ 0) × (drop (answer_bytes answer) after ≡ drop (answer_bytes answer) out)

@@ -15,7 +15,7 @@ use Rattle.operations.specs.declared.operation.Operation.TheVariants.{AddAccumul
 use Rattle.program.specs.Answer.{room_refusal}
 use Rattle.program.specs.File.{operation_count, file_refusal}
 use Rattle.program.specs.Write.{file_of}
-use Rattle.program.specs.declared.answer.Answer.TheVariants.{Written, Refused as AnswerRefused}
+use Rattle.std.specs.Prelude.{Ok, Err}
 use Rattle.program.specs.declared.answer.Refusal.TheVariants.{Together}
 use Rattle.state.specs.State.{no_loops, reset_state, restarted_state}
 use Rattle.state.specs.declared.settings.Settings.{Settings}
@@ -43,7 +43,7 @@ unfoldable call : List ℕ → Settings → State → List ℕ → ℕ → Resul
 unfolding run_of refused file_of engine
 call first settings s m budget = run_of first settings s m budget
 
--- resetState, which it does not come to, for must-fail/begun_from_reset
+-- reset_state, which it does not come to, for must-fail/begun_from_reset
 unfoldable both : List ℕ → List ℕ → Settings → State → List ℕ → ℕ → Result Engine
 unfolding runs_both reset_state restarted_state call
 both first second settings s m budget = runs_both first second settings s m budget
@@ -257,5 +257,5 @@ eight_last first second room e e' few = rw (e, e', few)
 
 -- ---- what is written
 
-written : (written_in (Written 2) (7 ∷ 8 ∷ 9 ∷ []) ≡ 7 ∷ 8 ∷ []) × (written_in (AnswerRefused Together) (7 ∷ 8 ∷ 9 ∷ []) ≡ [])
+written : (written_in (Ok 2) (7 ∷ 8 ∷ 9 ∷ []) ≡ 7 ∷ 8 ∷ []) × (written_in (Err Together) (7 ∷ 8 ∷ 9 ∷ []) ≡ [])
 written = (refl, refl)

@@ -3,11 +3,12 @@ use Prim.Native.Nat.{ℕ}
 use mathlib.Core.List.{List}
 use mathlib.Core.Path.{◌≡◌, ap, ◌∙◌, sym}
 use lib.ListN.{length, take, drop}
+use Rattle.std.specs.Prelude.{Result}
 use lib.Seq.{take_at}
 use Rattle.program.specs.Answer.{answer_bytes, Filled}
 use Rattle.program.specs.Bytes.{over}
 use Rattle.program.specs.File.{file_refusal, operation_count, program_of}
-use Rattle.program.specs.declared.answer.Answer.{Answer}
+use Rattle.program.specs.declared.answer.Refusal.{Refusal}
 use Rattle.runs.specs.Exact.{holds_clear}
 use Rattle.engine.specs.Call.{run_of}
 use Rattle.join.specs.Join.{joined, joined_file, join_refusal, Joinable}
@@ -16,7 +17,7 @@ use Rattle.join.proofs.Refusals.{join_accepted}
 use Rattle.join.proofs.Loads.{joined_loads}
 use Rattle.join.proofs.Calls.{left_accepted, joined_call, joined_clears}
 
-module _ (first second out : List ℕ) (answer : Answer) (after : List ℕ)
+module _ (first second out : List ℕ) (answer : Result ℕ Refusal) (after : List ℕ)
     (filled : Filled (join_refusal first second (length out)) (joined_file first second) out answer after) where
   -- what is written is the joined file
   written : join_refusal first second (length out) ≡ 0 → written_in answer after ≡ joined_file first second

@@ -1,8 +1,8 @@
 -- The call that joins two files: refused, or the joined file is written, and what a run of it comes to.
-use Rattle.std.specs.Prelude.{ℕ, ◌||◌, List, ◌≡◌, length, take}
+use Rattle.std.specs.Prelude.{ℕ, ◌||◌, List, ◌≡◌, length, take, Result}
 use Rattle.program.specs.Answer.{answer_bytes, Filled}
 use Rattle.program.specs.File.{file_refusal, program_of}
-use Rattle.program.specs.declared.answer.Answer.{Answer}
+use Rattle.program.specs.declared.answer.Refusal.{Refusal}
 use Rattle.state.specs.State.{restarted_state}
 use Rattle.state.specs.Typed.{AreWords, Typed}
 use Rattle.state.specs.declared.settings.Settings.{Settings}
@@ -14,11 +14,11 @@ use Rattle.join.specs.Join.{joined, joined_file, join_refusal}
 use Rattle.join.specs.Both.{runs_both}
 
 -- the bytes that a call has written
-abbrev pub written_in : Answer → List ℕ → List ℕ
+abbrev pub written_in : Result ℕ Refusal → List ℕ → List ℕ
 written_in answer after = take (answer_bytes answer) after
 
 -- what the call's answer and the lent slice after it are promised to be
-pub record Joins (first second out : List ℕ) (answer : Answer) (after : List ℕ) : Type 0 where
+pub record Joins (first second out : List ℕ) (answer : Result ℕ Refusal) (after : List ℕ) : Type 0 where
   -- the refusal, or the joined file at the slice's start
   pub filled : Filled (join_refusal first second (length out)) (joined_file first second) out answer after
   -- the file written loads

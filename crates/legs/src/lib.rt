@@ -2,3 +2,4 @@
 #![tactic(auto)]
 
 pub mod leg;
+pub mod window;

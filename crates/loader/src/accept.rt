@@ -1,34 +1,28 @@
 // Refusals 4 and 5 of operations, as they stand in a file's blocks or one after the other.
-ghost use Rattle.std.specs.Prelude.{◌≡◌, ◌≤◌, length};
+ghost use Rattle.std.specs.Prelude.{◌≡◌};
 ghost use Rattle.program.specs.Accept.{operations_refusal};
-ghost use Rattle.program.specs.Answer.{verdict_number};
-ghost use Rattle.program.specs.Layout.{span_of};
+ghost use Rattle.program.specs.Answer.{answer_number};
 
-use crate::layout::decode_in;
-use crate::placement::{is_placed_as, role_of};
-use operations::decode::Decoded;
-use program::answer::{Refusal, Verdict};
-use program::layout::Layout;
+use crate::layout::Operations;
+use crate::role::role_of;
+use program::answer::Refusal;
 
-// Refusals 4 and 5 of n operations: reading stops at the first that is not listed. `placed` holds up to the first that may not stand where it
-// does.
-pub fn check_operations(s: &[u8], layout: Layout, n: usize) -> Verdict
-    requires n_bound { n ≤ 4032 }
-    requires n_in_bounds { span_of layout n ≤ length s.now }
-    ensures { verdict_number result ≡ operations_refusal layout s.now n }
-{
-    let mut placed = true;
-    let mut i = 0;
-    while i < n {
-        let Decoded::Listed(operation) = decode_in(s, layout, i) else {
-            return Verdict::Refused(Refusal::Field);
-        };
-        placed = placed && is_placed_as(s, layout, n, i, role_of(operation));
-        i += 1;
-    }
-    if placed {
-        Verdict::Accepted
-    } else {
-        Verdict::Refused(Refusal::Placement)
+impl Operations<'_> {
+    // Refusals 4 and 5: reading stops at the first that is not listed. `placed` holds up to the first that may not stand where it does.
+    pub fn check(&self) -> Result<(), Refusal>
+        ensures { answer_number result ≡ operations_refusal self.now.layout self.now.bytes.now self.now.count }
+    {
+        let mut placed = true;
+        for i in 0..self.count {
+            let Some(operation) = self.decode(i) else {
+                return Err(Refusal::Field);
+            };
+            placed = placed && self.is_placed_as(i, role_of(operation));
+        }
+        if placed {
+            Ok(())
+        } else {
+            Err(Refusal::Placement)
+        }
     }
 }

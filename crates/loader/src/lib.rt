@@ -8,5 +8,6 @@ pub mod bytes;
 pub mod file;
 mod layout;
 mod placement;
+mod role;
 pub mod trip;
 pub mod write;

@@ -4,10 +4,11 @@ use mathlib.Core.Path.{◌≡◌, refl}
 use mathlib.Core.List.{List}
 use native.Mathlib.Omega.{arith}
 use lib.Dec.{lit≤}
-use Rattle.program.specs.Answer.{◌then◌, if_accepted}
+use Rattle.program.specs.Answer.{refusal_number, ◌then◌, if_accepted}
 use Rattle.program.specs.File.{file_refusal, program_of}
-use Rattle.program.proofs.Answers.{then_first, then_second, then_most, test_most}
+use Rattle.program.proofs.Answers.{refused_first, then_first, then_second, then_most, test_most}
 use Rattle.program.proofs.Accepted.{file_most}
+use Rattle.program.specs.declared.answer.Refusal.{Refusal}
 use Rattle.state.specs.Settings.{are_settings, settings_refusal}
 use Rattle.state.specs.Accept.{is_state, state_refusal}
 use Rattle.state.specs.declared.settings.Settings.{Settings}
@@ -18,6 +19,12 @@ use Rattle.machine.specs.Single.{call_refusal}
 pub if_refused : {A : Type 0} (n : ℕ) (x y : A) → (n ≡ 0 → ⊥) → y ≡ if_accepted n x y
 if_refused zero x y h = absurd (h refl)
 if_refused (suc n) x y h = refl
+
+-- an error is a refusal by a number above 0
+pub refused_some : (r : Refusal) → refusal_number r ≡ 0 → ⊥
+refused_some r h =
+    let again : refusal_number r ≡ 0 then 1 = refused_first r 0 1 h in
+    absurd (omega (arith, h, again))
 
 module _ (file : List ℕ) (settings : Settings) (s : State) where
   -- a call that is not refused has an accepted file, accepted settings and an accepted state

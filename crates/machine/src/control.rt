@@ -1,7 +1,8 @@
 // What kinds 19 to 25 do beside their effect.
 
 // What an operation does beside its effect: nothing, or what one of kinds 19 to 25 does to repeat left, loops, the mode word or the flags.
-#[derive(Clone, Copy)]
+// No Option: definitions alone build it.
+#[derive(Clone, Copy, Debug, PartialEq, Eq)]
 pub enum Control {
     None,
     Repeat { count: u16 },

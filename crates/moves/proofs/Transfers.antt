@@ -11,6 +11,10 @@ use lib.ListN.{length, get_or, set}
 use Rattle.integers.proofs.Whole.{whole, sum, neither, both}
 use Rattle.accumulator.specs.Mode.{mode_of}
 use Rattle.accumulator.specs.declared.mode.Target.{Target}
+use Rattle.std.specs.Prelude.{Some, None, Ok, Err}
+use Rattle.address.specs.Trap.{trap_number}
+use Rattle.address.specs.declared.trap.Trap.{Trap}
+use Rattle.address.proofs.Traps.{trap_some}
 use Rattle.operations.specs.Decode.{target_of, post_of, operand_of}
 use Rattle.operations.specs.declared.operation.Operand.TheVariants.{Memory}
 use Rattle.state.specs.declared.settings.Settings.{Settings}
@@ -28,7 +32,6 @@ use Rattle.form.specs.Form.{Encoded}
 use Rattle.form.proofs.ByKind.{lac_operation, add_operation, sac_operation, sac_r_operation, literal_operation, load_operation, store_operation}
 use Rattle.form.proofs.Ranges.{OperandFields, operand_fields, move_memory}
 use Rattle.fields.specs.Carried.{core_with, carried_of, Carries}
-use Rattle.fields.specs.declared.carry.Carry.{Carry}
 use Rattle.fields.proofs.Accumulators.{target_value}
 use Rattle.fields.proofs.Targets.{encoded_target}
 use Rattle.moves.specs.Transfer.{is_load, is_store, access_in, stored_by}
@@ -145,48 +148,45 @@ module _ {code : List ℕ} {at : ℕ} (e : Encoded code at) where
     -- ---- what each leaves
 
     -- a trap, and nothing else
-    module _ (r : Carry) (trap : ℕ) (some : trap ≡ 0 → ⊥) (answer : r ≡ record { trap = trap; writes = false; r = pos 0 }) where
-      blocks : (done : Core → Work) → ((c : Core) → work c ≡ unless_trap w trap (done c)) → Carries settings mode code at acc w memory w memory r
+    module _ (trap : Trap) where
+      blocks : (done : Core → Work) → ((c : Core) → work c ≡ unless_trap w (trap_number trap) (done c)) → Carries settings mode code at acc w memory w memory (Err trap)
       unfolding carried_of put_register put_memory
-      blocks done does c = rw (does c, ne_eqb trap 0 some, answer)
+      blocks done does c = rw (does c, ne_eqb (trap_number trap) 0 (trap_some trap))
 
-      pub load_blocks : is_load kind ≡ true → trap ≡ from.trap → Carries settings mode code at acc w memory w memory r
+      pub load_blocks : is_load kind ≡ true → trap_number trap ≡ from.trap → Carries settings mode code at acc w memory w memory (Err trap)
       load_blocks l same =
           by_three kind 12 13 17 l
           (λ k. blocks (λ c. results (changed from.change w) target loaded) (rw same (lac_work k)))
           (λ k. blocks (λ c. results (changed from.change w) target (get_or acc (field code at 1) (pos 0) +ℤ loaded)) (rw same (add_work k)))
           (λ k. blocks (λ c. stores (changed from.change w) (Register (field code at 1)) (Word word)) (rw same (load_work_lem k)))
 
-      pub store_blocks : is_store kind ≡ true → trap ≡ to.trap → Carries settings mode code at acc w memory w memory r
+      pub store_blocks : is_store kind ≡ true → trap_number trap ≡ to.trap → Carries settings mode code at acc w memory w memory (Err trap)
       store_blocks l same = blocks (λ c. stores (changed to.change w) to.place (stored_by code at acc w)) (rw same (store_work_lem l))
 
     -- loads without a trap
-    module _ (r : Carry) (w' : List ℕ) (trap : ℕ) (same : trap ≡ from.trap) (free : trap ≡ 0) where
-      pub lac_leaves : kind ≡ 12 → w' ≡ changed from.change w → r ≡ record { trap = 0; writes = true; r = loaded }
-          → Carries settings mode code at acc w memory w' memory r
+    module _ (w' : List ℕ) (free : 0 ≡ from.trap) where
+      pub lac_leaves : kind ≡ 12 → w' ≡ changed from.change w → Carries settings mode code at acc w memory w' memory (Ok (Some loaded))
       unfolding carried_of put_register put_memory
-      lac_leaves k registers answer c = rw (lac_work k c, ← same, free, registers, answer)
+      lac_leaves k registers c = rw (lac_work k c, ← free, registers)
 
-      pub add_leaves : kind ≡ 13 → w' ≡ changed from.change w → r ≡ record { trap = 0; writes = true; r = get_or acc (field code at 1) (pos 0) +ℤ loaded }
-          → Carries settings mode code at acc w memory w' memory r
+      pub add_leaves : kind ≡ 13 → w' ≡ changed from.change w
+          → Carries settings mode code at acc w memory w' memory (Ok (Some (get_or acc (field code at 1) (pos 0) +ℤ loaded)))
       unfolding carried_of put_register put_memory
-      add_leaves k registers answer c = rw (add_work k c, ← same, free, registers, answer)
+      add_leaves k registers c = rw (add_work k c, ← free, registers)
 
-      pub load_leaves : kind ≡ 17 → w' ≡ set (changed from.change w) (field code at 1) word → r ≡ record { trap = 0; writes = false; r = pos 0 }
-          → Carries settings mode code at acc w memory w' memory r
+      pub load_leaves : kind ≡ 17 → w' ≡ set (changed from.change w) (field code at 1) word → Carries settings mode code at acc w memory w' memory (Ok None)
       unfolding carried_of value_word put_register put_memory
-      load_leaves k registers answer c = rw (load_work_lem k c, ← same, free, registers, answer)
+      load_leaves k registers c = rw (load_work_lem k c, ← free, registers)
 
     -- the literal
-    pub literal_leaves : (r : Carry) (w' : List ℕ) → kind ≡ 16 → w' ≡ set w (field code at 1) (field code at 11)
-        → r ≡ record { trap = 0; writes = false; r = pos 0 } → Carries settings mode code at acc w memory w' memory r
+    pub literal_leaves : (w' : List ℕ) → kind ≡ 16 → w' ≡ set w (field code at 1) (field code at 11) → Carries settings mode code at acc w memory w' memory (Ok None)
     unfolding work_of carried_of value_word put_register put_memory
-    literal_leaves r w' k registers answer c = rw (literal_operation code at k, registers, answer)
+    literal_leaves w' k registers c = rw (literal_operation code at k, registers)
 
     -- stores without a trap
-    pub store_leaves : (r : Carry) (w' memory' : List ℕ) (trap : ℕ) → is_store kind ≡ true → trap ≡ to.trap → trap ≡ 0
+    pub store_leaves : (w' memory' : List ℕ) → is_store kind ≡ true → 0 ≡ to.trap
         → w' ≡ put_register to.place (value_word (mode_of mode) (stored_by code at acc w)) (changed to.change w)
         → memory' ≡ put_memory to.place (value_word (mode_of mode) (stored_by code at acc w)) memory
-        → r ≡ record { trap = 0; writes = false; r = pos 0 } → Carries settings mode code at acc w memory w' memory' r
+        → Carries settings mode code at acc w memory w' memory' (Ok None)
     unfolding carried_of
-    store_leaves r w' memory' trap l same free registers words answer c = rw (store_work_lem l c, ← same, free, registers, words, answer)
+    store_leaves w' memory' l free registers words c = rw (store_work_lem l c, ← free, registers, words)

@@ -1,6 +1,8 @@
 -- What kinds 12 to 15, 17 and 18 access and store, by their words.
-use Rattle.std.specs.Prelude.{ℕ, Bool, cond, ◌||◌, List, ◌≡◌, eqb, ℤ, pos, length, get_or}
+use Rattle.std.specs.Prelude.{ℕ, Bool, cond, ◌||◌, List, ◌≡◌, eqb, ℤ, pos, length, get_or, Result}
 use Rattle.accumulator.specs.Shift.{shift_of}
+use Rattle.address.specs.Trap.{failed_by}
+use Rattle.address.specs.declared.trap.Trap.{Trap}
 use Rattle.operations.specs.Decode.{operand_of}
 use Rattle.state.specs.State.{register}
 use Rattle.state.specs.declared.settings.Settings.{Settings}
@@ -13,7 +15,6 @@ use Rattle.effects.specs.declared.pointer.Purpose.{Purpose}
 use Rattle.effects.specs.declared.pointer.Purpose.TheVariants.{Read as Reading}
 use Rattle.form.specs.Words.{field, kind_in}
 use Rattle.fields.specs.Carried.{Reads}
-use Rattle.fields.specs.declared.read.Read.{Read}
 
 -- 12 LAC, 13 ADD, 17 load to a register
 abbrev pub is_load : ℕ → Bool
@@ -28,9 +29,9 @@ abbrev pub access_in : Settings → Purpose → List ℕ → ℕ → List ℕ �
 access_in s purpose code at w words = operand_access s purpose (operand_of (field code at 4) (field code at 6)) w words
 
 -- it is read, and registers w become w' by its pointer's change; with a trap they stay
-pub record LoadsOperand (s : Settings) (code : List ℕ) (at : ℕ) (w memory w' : List ℕ) (x : Read) : Type 0 where
+pub record LoadsOperand (s : Settings) (code : List ℕ) (at : ℕ) (w memory w' : List ℕ) (x : Result ℕ Trap) : Type 0 where
   pub reads : Reads x (access_in s Reading code at w (length memory)) w memory
-  pub moves : w' ≡ cond (eqb x.trap 0) (changed (access_in s Reading code at w (length memory)).change w) w
+  pub moves : w' ≡ cond (eqb (failed_by x) 0) (changed (access_in s Reading code at w (length memory)).change w) w
 
 -- what kinds 14, 15 and 18 store: the target, shifted, or a register
 abbrev pub stored_by : List ℕ → ℕ → List ℤ → List ℕ → Value

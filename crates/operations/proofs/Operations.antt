@@ -3,6 +3,7 @@ use Prim.Native.Nat.{ℕ, ◌+◌, ◌*◌, ◌/◌, ◌%◌, ◌≤◌, ◌<◌
 use mathlib.Core.Path.{◌≡◌, refl}
 use mathlib.Core.Bool.{Bool, true, false, ◌&&◌, ◌||◌, not}
 use mathlib.Core.List.{List}
+use Rattle.std.specs.Prelude.{Some}
 use native.Mathlib.Omega.{arith}
 use borrow.Author.Tests.{eqb-true, leb-true, eq-eqb, ne_eqb}
 use lib.Dec.{eqb, leb}
@@ -25,7 +26,6 @@ use Rattle.operations.specs.declared.operation.Operation.{Operation}
 use Rattle.operations.specs.declared.operation.Operation.TheVariants.{MacClass as MacOperation, AddAccumulators, Subtract, Negate, Shift}
 use Rattle.operations.specs.declared.operation.Operation.TheVariants.{Lac, Add, Sac, SacR, Literal, Load, Store, Repeat, RepeatRegister, Do}
 use Rattle.operations.specs.declared.operation.Operation.TheVariants.{DoRegister, EndEarly, SetMode, ClearSaturation}
-use Rattle.operations.specs.declared.decode.Decoded.TheVariants.{Listed, Refused}
 use Rattle.operations.specs.Bytes.{is_same}
 use Rattle.operations.specs.Encode.{target_byte, nibbles, action_byte, prefetch_byte, write_back_byte, mac_bytes, post_byte, pointer_byte, form_byte, encode_of}
 use Rattle.operations.specs.Listed.{is_factor, are_factors, is_prefetch, reads, is_destination, are_destinations, is_write_back, is_listed_mac, is_listed}
@@ -35,23 +35,19 @@ use Rattle.operations.proofs.Same.{same_true, same_refl}
 -- ---- what decoding says
 
 -- an operation that is taken is the one that was tested
-pub if_listed : (t : Bool) (p o : Operation) → listed_if t p ≡ Listed o → (t ≡ true) × (p ≡ o)
+if_listed : (t : Bool) (p o : Operation) → listed_if t p ≡ Some o → (t ≡ true) × (p ≡ o)
 if_listed true p o e = (refl, cc)
 if_listed false p o e = (cc, cc)
 
-pub if_refused : (t : Bool) (p : Operation) → listed_if t p ≡ Refused → t ≡ false
-if_refused true p e = cc
-if_refused false p e = refl
-
-pub taken_decode : (b : List ℕ) → decoded_number (decode_of b) ≡ 0 → decode_of b ≡ Listed (operation_of b)
+pub taken_decode : (b : List ℕ) → decoded_number (decode_of b) ≡ 0 → decode_of b ≡ Some (operation_of b)
 unfolding decode_of
 taken_decode b e = go (is_listed (operation_of b) && is_same (encode_of (operation_of b)) b) e
   where
-    go : (t : Bool) → decoded_number (listed_if t (operation_of b)) ≡ 0 → listed_if t (operation_of b) ≡ Listed (operation_of b)
+    go : (t : Bool) → decoded_number (listed_if t (operation_of b)) ≡ 0 → listed_if t (operation_of b) ≡ Some (operation_of b)
     go true e = refl
     go false e = cc
 
-module _ (b : List ℕ) (o : Operation) (e : decode_of b ≡ Listed o) where
+module _ (b : List ℕ) (o : Operation) (e : decode_of b ≡ Some o) where
   tested : (is_listed (operation_of b) && is_same (encode_of (operation_of b)) b ≡ true) × (operation_of b ≡ o)
   unfolding decode_of
   tested = if_listed (is_listed (operation_of b) && is_same (encode_of (operation_of b)) b) (operation_of b) o e
@@ -237,7 +233,7 @@ operation_encode EndEarly e = refl
 operation_encode (SetMode w) e = rw (word_again w)
 operation_encode ClearSaturation e = refl
 
-pub decode_encode : (o : Operation) → is_listed o ≡ true → decode_of (encode_of o) ≡ Listed o
+pub decode_encode : (o : Operation) → is_listed o ≡ true → decode_of (encode_of o) ≡ Some o
 unfolding decode_of
 decode_encode o e = rw (operation_encode o e, e, same_refl (encode_of o))
 

@@ -1,13 +1,11 @@
--- Lists of bytes that the test finds the same are equal, every list is the same as itself, and a loop compares byte by byte. Assumes nothing.
-use Prim.Native.Nat.{ℕ, ◌+◌, ◌<◌}
+-- Lists of bytes that the test finds the same are equal, every list is the same as itself, and std compares so. Assumes nothing.
+use Prim.Native.Nat.{ℕ}
 use mathlib.Core.Path.{◌≡◌, refl}
-use mathlib.Core.Bool.{true, ◌&&◌}
+use mathlib.Core.Bool.{true}
 use mathlib.Core.List.{List, [], ◌∷◌}
 use borrow.Author.Tests.{eqb-true, eq-eqb}
 use lib.Dec.{eqb}
-use lib.ListN.{length, get_or, drop}
-use lib.Seq.{drop-cons, drop-length}
-use native.Mathlib.Numerals.{add-one}
+use Rattle.std.specs.Str.{bytes_eq}
 use Rattle.integers.proofs.Whole.{never, both}
 use Rattle.operations.specs.Bytes.{is_same}
 
@@ -23,12 +21,9 @@ pub same_refl : (s : List ℕ) → is_same s s ≡ true
 same_refl [] = refl
 same_refl (b ∷ s) = rw (eq-eqb b b refl, same_refl s)
 
-pub same_next : (s t : List ℕ) (i : ℕ) → i < length s → i < length t
-    → is_same (drop i s) (drop i t) ≡ eqb (get_or s i 0) (get_or t i 0) && is_same (drop (i + 1) s) (drop (i + 1) t)
-same_next s t i hs ht = rw (add-one, drop-cons s i 0, drop-cons t i 0)
-
-pub same_end : (s t : List ℕ) (i : ℕ) → i ≡ length s → i ≡ length t → is_same (drop i s) (drop i t) ≡ true
-same_end s t i hs ht = same_both (drop i s) (drop i t) (rw (hs, drop-length)) (rw (ht, drop-length))
-  where
-    same_both : (u v : List ℕ) → u ≡ [] → v ≡ [] → is_same u v ≡ true
-    same_both u v hu hv = rw (hu, hv)
+-- std's comparison of two lists of bytes
+pub same_bytes : (s t : List ℕ) → is_same s t ≡ bytes_eq s t
+same_bytes [] [] = refl
+same_bytes [] (c ∷ t) = refl
+same_bytes (b ∷ s) [] = refl
+same_bytes (b ∷ s) (c ∷ t) = rw (same_bytes s t)

@@ -1,5 +1,5 @@
 -- The operation that 8 bytes b0..b7 are.
-use Rattle.std.specs.Prelude.{ℕ, ◌/◌, ◌%◌, List, Bool, true, false, cond, ◌&&◌, eqb, leb}
+use Rattle.std.specs.Prelude.{ℕ, ◌/◌, ◌%◌, List, Bool, true, false, cond, ◌&&◌, eqb, leb, Option, Some, None}
 use Rattle.accumulator.specs.declared.mode.Target.{Target}
 use Rattle.accumulator.specs.declared.mode.Target.TheVariants.{A, B}
 use Rattle.operations.specs.Bytes.{byte, word, is_same}
@@ -19,8 +19,6 @@ use Rattle.operations.specs.declared.operation.Operation.{Operation}
 use Rattle.operations.specs.declared.operation.Operation.TheVariants.{MacClass as MacOperation, AddAccumulators, Subtract, Negate, Shift, Lac, Add, Sac}
 use Rattle.operations.specs.declared.operation.Operation.TheVariants.{SacR, Literal, Load, Store, Repeat, RepeatRegister, Do, DoRegister, EndEarly, SetMode}
 use Rattle.operations.specs.declared.operation.Operation.TheVariants.{ClearSaturation}
-use Rattle.operations.specs.declared.decode.Decoded.{Decoded}
-use Rattle.operations.specs.declared.decode.Decoded.TheVariants.{Listed, Refused}
 
 -- b1 is target (0 A, 1 B)
 abbrev pub target_of : ℕ → Target
@@ -126,15 +124,15 @@ operation_of b =
     (control_operation_of b))))
 
 -- an operation, if a test holds
-abbrev pub listed_if : Bool → Operation → Decoded
-listed_if true o = Listed o
-listed_if false o = Refused
+abbrev pub listed_if : Bool → Operation → Option Operation
+listed_if true o = Some o
+listed_if false o = None
 
 -- kind and fields are listed, and unused bytes are 0: the operation is a listed one, and these are its bytes
-unfoldable pub decode_of : List ℕ → Decoded
+unfoldable pub decode_of : List ℕ → Option Operation
 decode_of b = listed_if (is_listed (operation_of b) && is_same (encode_of (operation_of b)) b) (operation_of b)
 
 -- the refusal of bytes that are no operation: 4, kind or field not listed
-abbrev pub decoded_number : Decoded → ℕ
-decoded_number (Listed o) = 0
-decoded_number Refused = 4
+abbrev pub decoded_number : Option Operation → ℕ
+decoded_number (Some o) = 0
+decoded_number None = 4

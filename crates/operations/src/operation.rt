@@ -2,9 +2,9 @@
 use accumulator::mode::Target;
 
 // What kinds 1 to 7 do to the target.
-#[derive(Clone, Copy)]
+#[derive(Clone, Copy, Debug, PartialEq, Eq)]
 pub enum Action {
-    Clr,
+    Clr = 1,
     Mpy,
     Mac,
     Msc,
@@ -14,7 +14,7 @@ pub enum Action {
 }
 
 // An X or Y read beside an operation: none, at a pointer that then steps by 2 (c - 3), or at the sum of two registers.
-#[derive(Clone, Copy)]
+#[derive(Clone, Copy, Debug, PartialEq, Eq)]
 pub enum Prefetch {
     None,
     Pointer { register: u8, c: u8 },
@@ -22,7 +22,7 @@ pub enum Prefetch {
 }
 
 // The rounded store of the other accumulator: none, to W13, or to memory at W13, which then goes up by 2.
-#[derive(Clone, Copy)]
+#[derive(Clone, Copy, Debug, PartialEq, Eq)]
 pub enum WriteBack {
     None,
     Register,
@@ -30,15 +30,15 @@ pub enum WriteBack {
 }
 
 // What happens to a pointer after its use: it stays, goes up by 2 or down by 2.
-#[derive(Clone, Copy)]
+#[derive(Clone, Copy, Debug, PartialEq, Eq)]
 pub enum PostModification {
-    None,
+    None = 1,
     Increment,
     Decrement,
 }
 
 // What kinds 12 to 15 read or store to: a register, or memory at a pointer with what happens to it.
-#[derive(Clone, Copy)]
+#[derive(Clone, Copy, Debug, PartialEq, Eq)]
 pub enum Operand {
     Register(u8),
     Memory { pointer: u8, post: PostModification },
@@ -46,7 +46,7 @@ pub enum Operand {
 
 // Kinds 1 to 7: factors m and n, the X and Y prefetches with their destinations, and the write-back. A register that the operation does
 // not have is 0.
-#[derive(Clone, Copy)]
+#[derive(Clone, Copy, Debug, PartialEq, Eq)]
 pub struct MacClass {
     pub action: Action,
     pub target: Target,
@@ -60,7 +60,7 @@ pub struct MacClass {
 }
 
 // The kinds in their order. A shift is held as its byte, the shift + 8.
-#[derive(Clone, Copy)]
+#[derive(Clone, Copy, Debug, PartialEq, Eq)]
 pub enum Operation {
     // 1 to 7
     MacClass(MacClass),

@@ -1,8 +1,8 @@
 -- A pair, kinds 2 to 4 with two reads at pointers and no write-back: its words, its fetch, and its whole work. Assumes nothing.
-use Rattle.std.proofs.Common.{◌≡◌, ℕ, zero, suc, ◌/◌, ◌≤◌, true, false, not, ◌&&◌, ◌||◌, eqb, leb, List, length, get_or, set, ℤ, pos, sym, refl, ap, ◌∙◌, arith, ne_eqb, eqb-true, leb-true}
+use Rattle.std.proofs.Common.{◌≡◌, ℕ, ◌/◌, ◌≤◌, true, false, not, ◌&&◌, ◌||◌, eqb, leb, List, length, get_or, set, ℤ, pos, Some, Result, Ok, refl, ap, ◌∙◌, arith, ne_eqb, eqb-true, leb-true}
+use Rattle.address.specs.declared.trap.Trap.{Trap}
 use Rattle.integers.proofs.Whole.{both}
 use Rattle.accumulator.specs.Mode.{mode_of}
-use Rattle.program.specs.Answer.{◌then◌}
 use Rattle.state.specs.State.{register}
 use Rattle.state.specs.declared.settings.Settings.{Settings}
 use Rattle.effects.specs.Access.{access_at, region_of}
@@ -11,19 +11,17 @@ use Rattle.effects.specs.Pointer.{moved_of, step_of}
 use Rattle.effects.specs.declared.access.Space.TheVariants.{X, Y}
 use Rattle.effects.specs.declared.mac.Accesses.{Accesses}
 use Rattle.effects.specs.declared.pointer.Change.{Change}
-use Rattle.effects.proofs.Traps.{first_some}
 use Rattle.machine.specs.Write.{put_register, put_memory}
 use Rattle.form.specs.Words.{field, kind_in, prefetch_in, mac_in}
 use Rattle.form.specs.Form.{Encoded}
 use Rattle.fields.specs.Carried.{Carries, Reads}
-use Rattle.fields.specs.declared.read.Read.{Read}
 use Rattle.fields.proofs.Accesses.{prefetch_reads, back_free}
 use Rattle.fields.proofs.Pointers.{pointer_moves, back_stays}
 use Rattle.products.specs.Fetched.{Accumulates, Fetches, is_pair}
 use Rattle.products.specs.declared.mac.Fetched.{Fetched}
 use Rattle.products.proofs.Arrivals.{load_some, arrived_words}
 use Rattle.products.proofs.WriteBacks.{back_none}
-use Rattle.products.proofs.Works.{mac_trapped, mac_carries}
+use Rattle.products.proofs.Works.{mac_carries}
 
 -- ---- its words
 
@@ -72,55 +70,31 @@ pair_arrives code at x y w p =
 
 -- ---- its fetch
 
-then_zero : (a : ℕ) → a ≡ (a then 0)
-then_zero zero = refl
-then_zero (suc a) = refl
-
-module _ (settings : Settings) (code : List ℕ) (at : ℕ) (w memory : List ℕ) (f : Fetched) (p : PairFields code at)
-    (xa : f.xa.0 ≡ register w (field code at 4)) (ya : f.ya.0 ≡ register w (field code at 6)) (ba : register w 13 ≡ f.ba.0)
-    (read : Read) (first : (w' : List ℕ) (change : Change) → Reads read (access_at (region_of settings (length memory) X) f.xa.0 change) w' memory) where
+module _ (settings : Settings) (code : List ℕ) (at : ℕ) (w memory : List ℕ) (p : PairFields code at) where
   abbrev accesses : Accesses
   accesses = mac_accesses settings (mac_in code at) w (length memory)
 
-  x_reads : Reads read accesses.x w memory
+  -- its reads are the accesses
+  pub x_reads : (read : Result ℕ Trap) (a : ℕ) → a ≡ register w (field code at 4)
+      → ((w' : List ℕ) (change : Change) → Reads read (access_at (region_of settings (length memory) X) a change) w' memory)
+      → Reads read accesses.x w memory
   unfolding mac_accesses
-  x_reads =
-      prefetch_reads settings X (field code at 4) (field code at 5) 12 (length memory) w p.x_some memory read f.xa.0 xa
+  x_reads read a xa first =
+      prefetch_reads settings X (field code at 4) (field code at 5) 12 (length memory) w p.x_some memory read a xa
       (λ w' change. rw (ne_eqb (field code at 4) 12 p.x_pointer) (first w' change))
 
-  -- the X read traps
-  pub x_trapped : (read.trap ≡ 0 → ⊥) → f.trap ≡ read.trap → Fetches settings code at w memory f
-  x_trapped some trap =
-      record {
-        trap = trap ∙ x_reads.trap ∙ first_some accesses.x.trap (accesses.y.trap then accesses.back.trap) (λ z. some (x_reads.trap ∙ z));
-        xa = sym xa;
-        ya = sym ya;
-        ba = ba;
-        x = λ z. absurd (some (sym trap ∙ z));
-        y = λ z. absurd (some (sym trap ∙ z));
-      }
-
-  -- it does not; the Y read
-  pub both_fetched : (yread : Read)
-      → ((w' : List ℕ) (change : Change) → Reads yread (access_at (region_of settings (length memory) Y) f.ya.0 change) w' memory)
-      → read.trap ≡ 0 → f.trap ≡ yread.trap → f.x ≡ read.word → f.y ≡ yread.word → Fetches settings code at w memory f
+  pub y_reads : (read : Result ℕ Trap) (a : ℕ) → a ≡ register w (field code at 6)
+      → ((w' : List ℕ) (change : Change) → Reads read (access_at (region_of settings (length memory) Y) a change) w' memory)
+      → Reads read accesses.y w memory
   unfolding mac_accesses
-  both_fetched yread second none trap x y =
-      let reads : Reads yread accesses.y w memory =
-      prefetch_reads settings Y (field code at 6) (field code at 7) 13 (length memory) w p.y_some memory yread f.ya.0 ya
-      (λ w' change. rw (ne_eqb (field code at 6) 13 p.y_pointer) (second w' change)) in
-      let free : 0 ≡ accesses.back.trap = back_free settings (field code at 10) (length memory) w (omega (arith, p.back)) in
-      let some : 0 ≡ accesses.x.trap = sym none ∙ x_reads.trap in
-      record {
-        trap =
-            trap ∙ reads.trap ∙ then_zero accesses.y.trap ∙ ap (λ (k : ℕ). accesses.y.trap then k) free
-            ∙ ap (λ (k : ℕ). k then (accesses.y.trap then accesses.back.trap)) some;
-        xa = sym xa;
-        ya = sym ya;
-        ba = ba;
-        x = λ z. x ∙ x_reads.word none;
-        y = λ z. y ∙ reads.word (sym trap ∙ z);
-      }
+  y_reads read a ya second =
+      prefetch_reads settings Y (field code at 6) (field code at 7) 13 (length memory) w p.y_some memory read a ya
+      (λ w' change. rw (ne_eqb (field code at 6) 13 p.y_pointer) (second w' change))
+
+  -- it has no write-back
+  pub back_is_free : 0 ≡ accesses.back.trap
+  unfolding mac_accesses
+  back_is_free = back_free settings (field code at 10) (length memory) w (omega (arith, p.back))
 
 -- ---- its whole work
 
@@ -132,20 +106,16 @@ module _ (settings : Settings) (mode : ℕ) {code : List ℕ} {at : ℕ} (acc : 
   abbrev yr : ℕ
   yr = field code at 6
 
-  -- with a trap nothing changes
-  pub pair_trapped : (f.trap ≡ 0 → ⊥) → Carries settings mode code at acc w memory w memory (record { trap = f.trap; writes = false; r = pos 0 })
-  pair_trapped = mac_trapped settings mode acc w memory f e (pair_fields code at pair).kind fetched
-
-  -- without one: the product, both pointers set, the words arrived, the exact result
-  pub pair_carries : {w1 w2 w3 : List ℕ} → f.trap ≡ 0 → (r p : ℤ)
+  -- the product, both pointers set, the words arrived, the exact result
+  pub pair_carries : {w1 w2 w3 : List ℕ} → (r p : ℤ)
       → p ≡ mac_product (mode_of mode) (mac_in code at) w
       → w1 ≡ set w xr (moved_of settings.x xr f.xa.0 (step_of (field code at 5)))
       → w2 ≡ set w1 yr (moved_of settings.y yr f.ya.0 (step_of (field code at 7)))
       → w3 ≡ arrived (mac_in code at) f.x f.y w2
       → Accumulates (kind_in code at) (get_or acc (field code at 1) (pos 0)) p r
-      → Carries settings mode code at acc w memory w3 memory (record { trap = 0; writes = true; r = r })
+      → Carries settings mode code at acc w memory w3 memory (Ok (Some r))
   unfolding mac_registers mac_accesses put_register put_memory
-  pair_carries {w1} {w2} {w3} free r p product e1 e2 e3 exact =
+  pair_carries {w1} {w2} {w3} r p product e1 e2 e3 exact =
       let fields = pair_fields code at pair in
       let n : ℕ = length memory in
       let x-test : (not (eqb xr 0) && not (eqb xr 12)) ≡ true = rw (ne_eqb xr 0 fields.x_some, ne_eqb xr 12 fields.x_pointer) in
@@ -153,8 +123,8 @@ module _ (settings : Settings) (mode : ℕ) {code : List ℕ} {at : ℕ} (acc : 
       let first = e1 ∙ pointer_moves settings X xr (field code at 5) 12 f.xa.0 n w w fetched.xa x-test in
       let second = e2 ∙ pointer_moves settings Y yr (field code at 7) 13 f.ya.0 n w w1 fetched.ya y-test in
       let third = back_stays settings (field code at 10) (register w 13) n w w2 refl (omega (arith, fields.back)) in
-      mac_carries settings mode acc w memory f e fields.kind fetched free (record { trap = 0; writes = true; r = r }) p product
-      (e3 ∙ rw (fetched.x free, fetched.y free, third, second, first))
+      mac_carries settings mode acc w memory e fields.kind fetched.free (Some r) p product
+      (e3 ∙ rw (fetched.x, fetched.y, third, second, first))
       (rw (back_none (field code at 10) n fields.back settings w))
       (rw (back_none (field code at 10) n fields.back settings w))
-      refl (λ t square some most same. exact t square fields.least fields.most same)
+      (λ t square some most same. exact t square fields.least fields.most same)

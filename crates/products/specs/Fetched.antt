@@ -1,6 +1,8 @@
 -- What kinds 1 to 7 read, and the shape that most of them have.
-use Rattle.std.specs.Prelude.{◌≡◌, ℕ, ◌/◌, ◌≤◌, Bool, true, ◌&&◌, ◌||◌, List, length, ℤ, ◌==◌, nat_le}
+use Rattle.std.specs.Prelude.{◌≡◌, ℕ, ◌/◌, ◌≤◌, Bool, true, ◌&&◌, ◌||◌, List, length, ℤ, ◌==◌, nat_le, Result, IfOk}
 use Rattle.accumulator.specs.declared.mode.Target.{Target}
+use Rattle.address.specs.Trap.{failed_by}
+use Rattle.address.specs.declared.trap.Trap.{Trap}
 use Rattle.operations.specs.Decode.{action_of}
 use Rattle.state.specs.State.{register}
 use Rattle.state.specs.declared.settings.Settings.{Settings}
@@ -10,14 +12,19 @@ use Rattle.effects.specs.declared.effect.Exact.TheVariants.{Replace}
 use Rattle.form.specs.Words.{field, kind_in, mac_in}
 use Rattle.products.specs.declared.mac.Fetched.{Fetched}
 
--- the first trap, what the pointers and W13 hold, and, where there is no trap, the words
+-- no trap, what the pointers and W13 hold, and the words
 pub record Fetches (settings : Settings) (code : List ℕ) (at : ℕ) (w memory : List ℕ) (f : Fetched) : Type 0 where
-  pub trap : f.trap ≡ mac_trap (mac_accesses settings (mac_in code at) w (length memory))
+  pub free : 0 ≡ mac_trap (mac_accesses settings (mac_in code at) w (length memory))
   pub xa : register w (field code at 4) ≡ f.xa.0
   pub ya : register w (field code at 6) ≡ f.ya.0
   pub ba : register w 13 ≡ f.ba.0
-  pub x : f.trap ≡ 0 → f.x ≡ word_at (mac_accesses settings (mac_in code at) w (length memory)).x.place w memory
-  pub y : f.trap ≡ 0 → f.y ≡ word_at (mac_accesses settings (mac_in code at) w (length memory)).y.place w memory
+  pub x : f.x ≡ word_at (mac_accesses settings (mac_in code at) w (length memory)).x.place w memory
+  pub y : f.y ≡ word_at (mac_accesses settings (mac_in code at) w (length memory)).y.place w memory
+
+-- the first trap, or what is read where there is none
+pub record Fetching (settings : Settings) (code : List ℕ) (at : ℕ) (w memory : List ℕ) (r : Result Fetched Trap) : Type 0 where
+  pub trap : failed_by r ≡ mac_trap (mac_accesses settings (mac_in code at) w (length memory))
+  pub fetched : IfOk r (λ f. Fetches settings code at w memory f)
 
 -- the product is the square
 abbrev pub SquareIs : ℕ → ℤ → ℤ → Type 0

@@ -1,9 +1,13 @@
-// What checks and calls answer, and the paper's number for each case.
-ghost use Rattle.std.specs.Prelude.{◌≡◌};
-ghost use Rattle.program.specs.Answer.{refusal_number, verdict_number, answer_number, answer_bytes};
+// What checks and calls answer, and the number of each refusal.
+ghost use Rattle.std.specs.Prelude.{◌≡◌, Some};
+ghost use Rattle.std.specs.Fmt.{decimal};
+ghost use Rattle.program.specs.Answer.{refusal_number, answer_number, answer_bytes};
 
-// Why something is refused.
-#[derive(Clone, Copy)]
+use std::error::Error;
+use std::fmt;
+
+// Why something is refused, in the order of the table of refusals.
+#[derive(Clone, Copy, Debug, PartialEq, Eq)]
 pub enum Refusal {
     // a file not of 1 to 64 whole blocks; to the writer, not 1 to 4,032 whole operations
     Size,
@@ -15,10 +19,18 @@ pub enum Refusal {
     Field,
     // a DO or a REPEAT where it may not stand
     Placement,
+    // settings that are not good for the memory
+    Settings,
+    // a state that does not fit its program; of sums that are combined, a bad mode word
+    State,
     // too little room for the output
     Room,
     // two programs of more than 4,032 operations together
     Together,
+    // not two to eight boards
+    Boards,
+    // an accumulator A beyond 40 bits among the sums
+    Sums,
 }
 
 impl Refusal {
@@ -32,56 +44,44 @@ impl Refusal {
             Refusal::Header => 3,
             Refusal::Field => 4,
             Refusal::Placement => 5,
+            Refusal::Settings => 6,
+            Refusal::State => 7,
             Refusal::Room => 8,
             Refusal::Together => 9,
+            Refusal::Boards => 13,
+            Refusal::Sums => 14,
         }
     }
 }
 
-// What a check answers.
-#[derive(Clone, Copy)]
-pub enum Verdict {
-    Accepted,
-    Refused(Refusal),
-}
+// A refusal is printed as its number.
+impl fmt::Display for Refusal {
+    ghost output = { λ r. Some (decimal (refusal_number r)) };
 
-impl Verdict {
-    // The refusal's number, 0 when accepted.
-    pub fn number(self) -> u8
-        ensures { result ≡ verdict_number self }
-    {
-        match self {
-            Verdict::Accepted => 0,
-            Verdict::Refused(refusal) => refusal.number(),
-        }
+    fn fmt<W: fmt::Write>(&self, f: &mut fmt::Formatter<W>) -> fmt::Result {
+        let number = self.number();
+        write!(f, "{number}")
     }
 }
 
-// What a call that fills a lent slice answers: so many bytes written, or its refusal.
-#[derive(Clone, Copy)]
-pub enum Answer {
-    Written(usize),
-    Refused(Refusal),
+impl Error for Refusal {}
+
+// The refusal's number, 0 where nothing is refused.
+pub fn number<T>(answer: &Result<T, Refusal>) -> u8
+    ensures { result ≡ answer_number answer.now }
+{
+    match answer {
+        Ok(_) => 0,
+        Err(refusal) => refusal.number(),
+    }
 }
 
-impl Answer {
-    // The refusal's number, 0 when accepted.
-    pub fn number(self) -> u8
-        ensures { result ≡ answer_number self }
-    {
-        match self {
-            Answer::Written(_) => 0,
-            Answer::Refused(refusal) => refusal.number(),
-        }
-    }
-
-    // The bytes written, 0 when refused.
-    pub fn bytes(self) -> usize
-        ensures { result ≡ answer_bytes self }
-    {
-        match self {
-            Answer::Written(n) => n,
-            Answer::Refused(_) => 0,
-        }
+// The bytes that a call wrote into a lent slice, 0 where it refused.
+pub fn bytes(answer: &Result<usize, Refusal>) -> usize
+    ensures { result ≡ answer_bytes answer.now }
+{
+    match answer {
+        Ok(n) => *n,
+        Err(_) => 0,
     }
 }

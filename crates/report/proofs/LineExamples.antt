@@ -7,8 +7,8 @@ use lib.IntN.{ℤ, pos}
 use Rattle.integers.specs.Range.{minus}
 use Rattle.accumulator.specs.Status.{status_of}
 use Rattle.accumulator.specs.declared.limit.Accumulator.{Accumulator}
-use Rattle.program.specs.declared.answer.Refusal.TheVariants.{Room, Together}
-use Rattle.program.specs.declared.answer.Answer.TheVariants.{Written, Refused as AnswerRefused}
+use Rattle.program.specs.declared.answer.Refusal.TheVariants.{Room, Together, Boards, Settings}
+use Rattle.std.specs.Prelude.{Ok, Err}
 use Rattle.state.specs.State.{no_loops, state_status}
 use Rattle.state.specs.declared.state.State.{State}
 use Rattle.machine.specs.declared.single.SingleStep.{SingleStep}
@@ -16,7 +16,6 @@ use Rattle.endings.specs.Ending.{name_of, decimal_of}
 use Rattle.endings.specs.declared.ending.Ending.{Ending}
 use Rattle.endings.specs.declared.ending.Ending.TheVariants.{Done, Spent, Trap, Refused}
 use Rattle.engine.specs.declared.outcome.Outcome.{Outcome}
-use Rattle.combine.specs.declared.call.Combined.TheVariants.{Sum, Refused as SumRefused}
 use Rattle.text.specs.Text.{number_text, signed_text, word_text}
 use Rattle.report.specs.Line.{slot_fields, sum_fields, control_fields, state_fields, ending_text, run_fields, run_line, long_run_line, decoded_run_line, tally_sums, tally_line}
 use Rattle.report.specs.Line.{step_text, step_line, filled_line, combined_fields, combined_line, notice_line, service_text, bag_fields}
@@ -179,27 +178,27 @@ step_refused = refl
 -- ---- loads, writes, joins: the slice has two bytes
 
 -- a load: `loaded 504 33\n`
-loaded : filled_line Loaded (Written 504) words ≡ 108 ∷ 111 ∷ 97 ∷ 100 ∷ 101 ∷ 100 ∷ 32 ∷ 53 ∷ 48 ∷ 52 ∷ 32 ∷ 51 ∷ 51 ∷ 10 ∷ []
+loaded : filled_line Loaded (Ok 504) words ≡ 108 ∷ 111 ∷ 97 ∷ 100 ∷ 101 ∷ 100 ∷ 32 ∷ 53 ∷ 48 ∷ 52 ∷ 32 ∷ 51 ∷ 51 ∷ 10 ∷ []
 unfolding filled_line number_text ending_text name_of decimal_of
 loaded = refl
 
 -- a write: `written 512 33\n`
-written : filled_line Wrote (Written 512) words ≡ 119 ∷ 114 ∷ 105 ∷ 116 ∷ 116 ∷ 101 ∷ 110 ∷ 32 ∷ 53 ∷ 49 ∷ 50 ∷ 32 ∷ 51 ∷ 51 ∷ 10 ∷ []
+written : filled_line Wrote (Ok 512) words ≡ 119 ∷ 114 ∷ 105 ∷ 116 ∷ 116 ∷ 101 ∷ 110 ∷ 32 ∷ 53 ∷ 49 ∷ 50 ∷ 32 ∷ 51 ∷ 51 ∷ 10 ∷ []
 unfolding filled_line number_text ending_text name_of decimal_of
 written = refl
 
 -- a join: `joined 1024 33\n`
-joined : filled_line Joined (Written 1024) words ≡ 106 ∷ 111 ∷ 105 ∷ 110 ∷ 101 ∷ 100 ∷ 32 ∷ 49 ∷ 48 ∷ 50 ∷ 52 ∷ 32 ∷ 51 ∷ 51 ∷ 10 ∷ []
+joined : filled_line Joined (Ok 1024) words ≡ 106 ∷ 111 ∷ 105 ∷ 110 ∷ 101 ∷ 100 ∷ 32 ∷ 49 ∷ 48 ∷ 50 ∷ 52 ∷ 32 ∷ 51 ∷ 51 ∷ 10 ∷ []
 unfolding filled_line number_text ending_text name_of decimal_of
 joined = refl
 
 -- refused for its room: `refused8 0 33\n`
-no_room : filled_line Wrote (AnswerRefused Room) words ≡ 114 ∷ 101 ∷ 102 ∷ 117 ∷ 115 ∷ 101 ∷ 100 ∷ 56 ∷ 32 ∷ 48 ∷ 32 ∷ 51 ∷ 51 ∷ 10 ∷ []
+no_room : filled_line Wrote (Err Room) words ≡ 114 ∷ 101 ∷ 102 ∷ 117 ∷ 115 ∷ 101 ∷ 100 ∷ 56 ∷ 32 ∷ 48 ∷ 32 ∷ 51 ∷ 51 ∷ 10 ∷ []
 unfolding filled_line number_text ending_text name_of decimal_of
 no_room = refl
 
 -- refused together: `refused9 0 33\n`
-not_joined : filled_line Joined (AnswerRefused Together) words ≡ 114 ∷ 101 ∷ 102 ∷ 117 ∷ 115 ∷ 101 ∷ 100 ∷ 57 ∷ 32 ∷ 48 ∷ 32 ∷ 51 ∷ 51 ∷ 10 ∷ []
+not_joined : filled_line Joined (Err Together) words ≡ 114 ∷ 101 ∷ 102 ∷ 117 ∷ 115 ∷ 101 ∷ 100 ∷ 57 ∷ 32 ∷ 48 ∷ 32 ∷ 51 ∷ 51 ∷ 10 ∷ []
 unfolding filled_line number_text ending_text name_of decimal_of
 not_joined = refl
 
@@ -209,12 +208,12 @@ abbrev total : Accumulator
 total = record { value = minus 5; overflow = false; saturation = true }
 
 -- A, OA, SA: `combined -5 0 1\n`
-combined : combined_line (Sum total) ≡ 99 ∷ 111 ∷ 109 ∷ 98 ∷ 105 ∷ 110 ∷ 101 ∷ 100 ∷ 32 ∷ 45 ∷ 53 ∷ 32 ∷ 48 ∷ 32 ∷ 49 ∷ 10 ∷ []
+combined : combined_line (Ok total) ≡ 99 ∷ 111 ∷ 109 ∷ 98 ∷ 105 ∷ 110 ∷ 101 ∷ 100 ∷ 32 ∷ 45 ∷ 53 ∷ 32 ∷ 48 ∷ 32 ∷ 49 ∷ 10 ∷ []
 unfolding combined_line combined_fields number_text signed_text
 combined = refl
 
 -- a refusal: `refused13\n`
-not_combined : combined_line (SumRefused 13) ≡ 114 ∷ 101 ∷ 102 ∷ 117 ∷ 115 ∷ 101 ∷ 100 ∷ 49 ∷ 51 ∷ 10 ∷ []
+not_combined : combined_line (Err Boards) ≡ 114 ∷ 101 ∷ 102 ∷ 117 ∷ 115 ∷ 101 ∷ 100 ∷ 49 ∷ 51 ∷ 10 ∷ []
 unfolding combined_line ending_text name_of decimal_of
 not_combined = refl
 
@@ -231,7 +230,7 @@ notices = (refl, refl, refl)
 -- ---- a service
 
 -- served: the checks of memory, of the ending codes and of the steps: `served .. 16 3`
-served : service_text 0 standing words (0 ∷ 16 ∷ []) (3 ∷ [])
+served : service_text {A = State} (Ok standing) standing words (0 ∷ 16 ∷ []) (3 ∷ [])
     ≡ (115 ∷ 101 ∷ 114 ∷ 118 ∷ 101 ∷ 100 ∷ [])
     ++ standing_fields
     ++ (32 ∷ 49 ∷ 54 ∷ 32 ∷ 51 ∷ [])
@@ -239,7 +238,7 @@ unfolding service_text ending_text name_of decimal_of state_fields sum_fields co
 served = refl
 
 -- refused: `refused6 .. 16 3`
-not_served : service_text 6 standing words (0 ∷ 16 ∷ []) (3 ∷ [])
+not_served : service_text {A = State} (Err Settings) standing words (0 ∷ 16 ∷ []) (3 ∷ [])
     ≡ (114 ∷ 101 ∷ 102 ∷ 117 ∷ 115 ∷ 101 ∷ 100 ∷ 54 ∷ [])
     ++ standing_fields
     ++ (32 ∷ 49 ∷ 54 ∷ 32 ∷ 51 ∷ [])

@@ -1,8 +1,8 @@
 -- The line that is printed for a case: its fields in their order, parted by one space.
-use Rattle.std.specs.Prelude.{ℕ, ◌-◌, cond, List, [], ◌∷◌, ◌++◌, eqb, length, get_or, take, replicate}
+use Rattle.std.specs.Prelude.{ℕ, ◌-◌, cond, List, [], ◌∷◌, ◌++◌, eqb, length, get_or, take, replicate, Result, Ok, Err}
 use Rattle.accumulator.specs.declared.limit.Accumulator.{Accumulator}
-use Rattle.program.specs.Answer.{answer_number, answer_bytes}
-use Rattle.program.specs.declared.answer.Answer.{Answer}
+use Rattle.program.specs.Answer.{refusal_number, answer_bytes}
+use Rattle.program.specs.declared.answer.Refusal.{Refusal}
 use Rattle.state.specs.State.{state_status}
 use Rattle.state.specs.declared.state.Core.{Core}
 use Rattle.state.specs.declared.state.State.{State}
@@ -11,8 +11,6 @@ use Rattle.endings.specs.Ending.{name_of}
 use Rattle.endings.specs.declared.ending.Ending.{Ending}
 use Rattle.endings.specs.declared.ending.Ending.TheVariants.{Done, Spent, Trap, Refused}
 use Rattle.engine.specs.declared.outcome.Outcome.{Outcome}
-use Rattle.combine.specs.declared.call.Combined.{Combined}
-use Rattle.combine.specs.declared.call.Combined.TheVariants.{Sum, Refused as SumRefused}
 use Rattle.text.specs.Text.{number_text, signed_text, word_text, before_zero, field_of, flag_text, fields_of, check_field}
 use Rattle.report.specs.declared.notice.Notice.{Notice}
 use Rattle.report.specs.declared.notice.Notice.TheVariants.{Short, TooLarge, Unknown}
@@ -130,14 +128,15 @@ verb_text Loaded = 108 ∷ 111 ∷ 97 ∷ 100 ∷ 101 ∷ 100 ∷ []
 verb_text Wrote = 119 ∷ 114 ∷ 105 ∷ 116 ∷ 116 ∷ 101 ∷ 110 ∷ []
 verb_text Joined = 106 ∷ 111 ∷ 105 ∷ 110 ∷ 101 ∷ 100 ∷ []
 
--- a verb, or the refusal where its number is not 0
-abbrev pub unless_refused : ℕ → List ℕ → List ℕ
-unless_refused n text = cond (eqb n 0) text (ending_text (Refused n))
+-- a text, or the refusal in its place
+abbrev pub unless_refused : {A : Type 0} → Result A Refusal → List ℕ → List ℕ
+unless_refused (Ok x) text = text
+unless_refused (Err r) text = ending_text (Refused (refusal_number r))
 
 -- the verb and the bytes written, or the refusal and 0; the slice's check
-unfoldable pub filled_line : Verb → Answer → List ℕ → List ℕ
+unfoldable pub filled_line : Verb → Result ℕ Refusal → List ℕ → List ℕ
 filled_line v answer slice =
-    unless_refused (answer_number answer) (verb_text v) ++ field_of (number_text (answer_bytes answer)) ++ check_field slice ++ line_end
+    unless_refused answer (verb_text v) ++ field_of (number_text (answer_bytes answer)) ++ check_field slice ++ line_end
 
 -- ---- boards combined
 
@@ -150,9 +149,9 @@ combined_fields a =
     ++ field_of (flag_text a.saturation)
 
 -- the sum or the refusal
-unfoldable pub combined_line : Combined → List ℕ
-combined_line (Sum a) = combined_fields a ++ line_end
-combined_line (SumRefused n) = ending_text (Refused n) ++ line_end
+unfoldable pub combined_line : Result Accumulator Refusal → List ℕ
+combined_line (Ok a) = combined_fields a ++ line_end
+combined_line (Err r) = ending_text (Refused (refusal_number r)) ++ line_end
 
 -- ---- cases without an answer
 
@@ -172,9 +171,9 @@ abbrev pub served_text : List ℕ
 served_text = 115 ∷ 101 ∷ 114 ∷ 118 ∷ 101 ∷ 100 ∷ []
 
 -- `served` or the refusal, the state, the memory's check, the checks of the ending codes and of the steps; the bags' fields and the line's end follow
-unfoldable pub service_text : ℕ → State → List ℕ → List ℕ → List ℕ → List ℕ
-service_text refusal s memory endings steps =
-    unless_refused refusal served_text ++ state_fields s memory ++ check_field endings ++ check_field steps
+unfoldable pub service_text : {A : Type 0} → Result A Refusal → State → List ℕ → List ℕ → List ℕ → List ℕ
+service_text answer s memory endings steps =
+    unless_refused answer served_text ++ state_fields s memory ++ check_field endings ++ check_field steps
 
 -- a bag: its ending's code in hexadecimal, its steps
 unfoldable pub bag_fields : ℕ → ℕ → List ℕ

@@ -1,5 +1,5 @@
 // What a call that fills a lent slice did.
-#[derive(Clone, Copy)]
+#[derive(Clone, Copy, Debug, PartialEq, Eq)]
 pub enum Verb {
     Loaded,
     Wrote,

@@ -4,5 +4,5 @@ use Rattle.operations.specs.declared.operation.Operation.{Operation}
 
 -- some operation of a program is such
 unfoldable pub holds : (Operation → Bool) → List Operation → Bool
-holds isSuch [] = false
-holds isSuch (o ∷ p) = isSuch o || holds isSuch p
+holds is_such [] = false
+holds is_such (o ∷ p) = is_such o || holds is_such p

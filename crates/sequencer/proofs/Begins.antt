@@ -1,13 +1,12 @@
 -- Kinds 19 to 22 by their words: what they do to the core, and the last operation that a DO names. Assumes nothing.
 use Prim.Native.Nat.{ℕ, ◌+◌, ◌≤◌, ◌<◌}
-use mathlib.Core.Path.{◌≡◌, refl, sym, ap, ◌∙◌}
-use mathlib.Core.Bool.{Bool, true, false, ◌||◌}
+use mathlib.Core.Path.{◌≡◌, sym, ap, ◌∙◌}
+use mathlib.Core.Bool.{Bool}
 use mathlib.Core.List.{List}
-use mathlib.Core.Logic.{⊎_elim}
+use mathlib.Core.Logic.{◌⊎◌, ⊎_elim}
 use native.Mathlib.Omega.{arith}
 use native.Mathlib.Nat.{eq-or-lt_of_le}
-use borrow.Author.Tests.{lt-leb, ltb-true, eqb-true}
-use lib.Dec.{eqb}
+use borrow.Author.Tests.{lt-leb, ltb-true}
 use lib.IntN.{ℤ}
 use lib.ListN.{get_or-map}
 use Rattle.integers.proofs.Whole.{both}
@@ -91,12 +90,10 @@ module _ (code : List ℕ) (at : ℕ) where
 
   -- ---- the register that holds a count
 
-  pub register_range : Encoded code at → (eqb (kind_in code at) 20 || eqb (kind_in code at) 22) ≡ true → field code at 1 < 14
+  pub register_range : Encoded code at → (kind_in code at ≡ 20) ⊎ (kind_in code at ≡ 22) → field code at 1 < 14
   unfolding is_listed
-  register_range encoded by_register = go (eqb (kind_in code at) 20) refl by_register
-    where
-      go : (t : Bool) → eqb (kind_in code at) 20 ≡ t → (t || eqb (kind_in code at) 22) ≡ true → field code at 1 < 14
-      go true e either = ltb-true (field code at 1) 14 (rw (repeat_register_in (eqb-true (kind_in code at) 20 e)) at encoded.listed)
-      go false e other =
-          ltb-true (field code at 1) 14
-          (both (is_register (field code at 1)) (is_word (field code at 12)) (rw (do_register_in (eqb-true (kind_in code at) 22 other)) at encoded.listed)).0
+  register_range encoded =
+      ⊎_elim (λ e. ltb-true (field code at 1) 14 (rw (repeat_register_in e) at encoded.listed))
+      (λ e.
+      ltb-true (field code at 1) 14
+      (both (is_register (field code at 1)) (is_word (field code at 12)) (rw (do_register_in e) at encoded.listed)).0)

@@ -1,5 +1,5 @@
 -- A state put together from what the code is lent and handed: accumulators A and B, flags OA and OB, and flags SA and SB in arrays of two.
-use Rattle.std.specs.Prelude.{ℕ, Bool, false, List, ◌≡◌, ℤ, pos, length, get_or}
+use Rattle.std.specs.Prelude.{ℕ, Bool, false, List, ℤ, pos, get_or}
 use Rattle.state.specs.declared.state.Core.{Core}
 use Rattle.state.specs.declared.state.State.{State}
 use Rattle.sequencer.specs.declared.flow.Flow.{Flow}
@@ -22,9 +22,3 @@ lent_core w acc oflags starts passes f =
 -- the state
 abbrev pub lent_state : List ℕ → List ℤ → List Bool → List Bool → List ℕ → List ℕ → Flow → State
 lent_state w acc oflags sflags starts passes f = record { core = lent_core w acc oflags starts passes f; sa = get_or sflags 0 false; sb = get_or sflags 1 false }
-
--- arrays of two
-pub record Twos (acc : List ℤ) (oflags sflags : List Bool) : Type 0 where
-  pub values : length acc ≡ 2
-  pub overflows : length oflags ≡ 2
-  pub saturations : length sflags ≡ 2

@@ -3,5 +3,6 @@
 
 pub mod control;
 pub mod flow;
-pub mod limits;
+pub mod loops;
 pub mod settle;
+pub mod sums;

@@ -1,97 +1,96 @@
 // The write of an exact result: limits, flags, traps 5 to 7.
-ghost use Rattle.std.specs.Prelude.{true, cond, ◌≡◌, ℕ, ◌<◌, eqb};
-ghost use Rattle.integers.specs.Bits.{low_bits, signed_of};
-ghost use Rattle.integers.specs.Range.{highest, outside, nearer};
+ghost use Rattle.std.specs.Prelude.{true, cond, ◌≡◌, ◌<◌};
 ghost use Rattle.accumulator.specs.Limit.{overflows};
-ghost use Rattle.sequencer.specs.Lent.{Twos};
-ghost use Rattle.sequencer.specs.Settled.{limits_for, Settles};
+ghost use Rattle.address.specs.Trap.{trap_code};
+ghost use Rattle.operations.specs.Decode.{target_of};
+ghost use Rattle.state.specs.Settings.{traps_overflow};
+ghost use Rattle.machine.specs.Write.{overflow_trap, trap_after};
+ghost use Rattle.sequencer.specs.Settled.{Settles};
 
-use crate::limits::{Limit, Limits};
-use accumulator::limit::{low40, overflow};
+use crate::sums::Sums;
+use accumulator::limit::{Accumulator, kept, left, overflow, write};
+use accumulator::mode::{Mode, Target};
+use address::trap::Trap;
+use state::settings::{traps_left, traps_overflow};
 
-// Whether r is outside -1 - high .. high.
-fn has_left(high: i64, r: i64) -> bool
-    ensures { (k : ℕ) → high ≡ highest k → result ≡ outside k r }
+// The accumulator of a target's number.
+fn target_of(t: usize) -> Target
+    ensures { result ≡ target_of t }
 {
-    let low = -1 - high;
-    (r < low) | (high < r)
+    if t == 0 { Target::A } else { Target::B }
 }
 
-// The nearer limit.
-fn nearer(high: i64, r: i64) -> i64
-    ensures { (k : ℕ) → high ≡ highest k → result ≡ nearer k r }
+// The trap of an accumulator's overflow, with OVATE or OVBTE.
+fn overflow_trap(traps: u16, target: Target) -> Option<Trap>
+    ensures { trap_code result ≡ cond (traps_overflow traps target) (overflow_trap target) 0 }
 {
-    if r < 0 { -1 - high } else { high }
-}
-
-// What is kept of a result outside the limits: the nearer one, or the low 40 bits.
-fn kept(on: bool, high: i64, r: i64) -> i64
-    ensures { (k : ℕ) → high ≡ highest k → result ≡ cond on (nearer k r) (signed_of 40 (low_bits 40 r)) }
-{
-    if on { nearer(high, r) } else { low40(r) }
-}
-
-// The first trap of a result outside the limits: `outside`, then, with an overflow, `overflow`.
-fn first_trap(outside: u8, o: bool, overflow: u8) -> u8
-    ensures { result ≡ cond (eqb outside 0) (cond o overflow 0) outside }
-{
-    if outside != 0 {
-        outside
-    } else if o {
-        overflow
-    } else {
-        0
+    if !traps_overflow(traps, target) {
+        return None;
+    }
+    match target {
+        Target::A => Some(Trap::OverflowA),
+        Target::B => Some(Trap::OverflowB),
     }
 }
 
-// A result r outside 32 bits is limited and written to accumulator t; its trap, 0 none.
-fn limit(
-    limits: Limits,
-    t: usize,
-    r: i64,
-    acc: &mut [i64; 2],
-    oflags: &mut [bool; 2],
-    sflags: &mut [bool; 2],
-) -> u8
-    requires t_bound { t < 2 }
-    requires twos { Twos acc.old oflags.old sflags.old }
-    requires r_value { overflows r ≡ true }
-    ensures by_index { (traps mode : ℕ) → limits ≡ limits_for traps mode → Settles traps mode t r acc.old oflags.old sflags.old acc.new oflags.new sflags.new result }
-    ensures twos_2 { Twos acc.new oflags.new sflags.new }
+// The first trap of a result r: outside the limits, with saturation off and COVTE; then the overflow of what is kept.
+fn trap_after(traps: u16, mode: Mode, target: Target, r: i64) -> Option<Trap>
+    ensures { trap_code result ≡ trap_after traps mode target r }
 {
-    let by = limits.at(t);
-    let high = by.high;
-    if !has_left(high, r) {
-        acc[t] = r;
-        oflags[t] = true;
-        return by.overflow;
+    if left(mode, target, r) & (!mode.saturates(target) & traps_left(traps)) {
+        return Some(Trap::LimitsLeft);
     }
-    let v = kept(by.on, high, r);
-    let o = overflow(v);
-    acc[t] = v;
-    oflags[t] = o;
-    sflags[t] = true;
-    first_trap(by.outside, o, by.overflow)
+    if overflow(kept(mode, target, r)) {
+        return overflow_trap(traps, target);
+    }
+    None
 }
 
-// The result r is written to accumulator t: within 32 bits nothing is limited; its trap, 0 none.
-pub fn settle(
-    limits: Limits,
-    t: usize,
-    r: i64,
-    acc: &mut [i64; 2],
-    oflags: &mut [bool; 2],
-    sflags: &mut [bool; 2],
-) -> u8
-    requires t_bound { t < 2 }
-    requires twos { Twos acc.old oflags.old sflags.old }
-    ensures by_index { (traps mode : ℕ) → limits ≡ limits_for traps mode → Settles traps mode t r acc.old oflags.old sflags.old acc.new oflags.new sflags.new result }
-    ensures twos_2 { Twos acc.new oflags.new sflags.new }
-{
-    if !overflow(r) {
-        acc[t] = r;
-        oflags[t] = false;
-        return 0;
+impl Sums {
+    // The result r is limited and written to accumulator t, by the trap word and the mode word; its trap.
+    fn limit(&mut self, traps: u16, word: u16, t: usize, r: i64) -> Option<Trap>
+        requires { t < 2 }
+        ensures { Settles traps word t r self.old self.new result }
+    {
+        let mode = Mode::of(word);
+        let target = target_of(t);
+        let before = Accumulator {
+            value: self.values[t],
+            overflow: self.overflow[t],
+            saturation: self.saturation[t],
+        };
+        let after = write(before, mode, target, r);
+        self.values[t] = after.value;
+        self.overflow[t] = after.overflow;
+        self.saturation[t] = after.saturation;
+        trap_after(traps, mode, target, r)
     }
-    limit(limits, t, r, acc, oflags, sflags)
+
+    // The same of a result beyond 32 bits. Within the limits it is kept as it is, which is worth a way of its own: sums of a loop are often there.
+    fn exceed(&mut self, traps: u16, word: u16, t: usize, r: i64) -> Option<Trap>
+        requires t_bound { t < 2 }
+        requires r_value { overflows r ≡ true }
+        ensures { Settles traps word t r self.old self.new result }
+    {
+        let target = target_of(t);
+        if left(Mode::of(word), target, r) {
+            return self.limit(traps, word, t, r);
+        }
+        self.values[t] = r;
+        self.overflow[t] = true;
+        overflow_trap(traps, target)
+    }
+
+    // The same of any result. Within 32 bits nothing is limited and there is no trap.
+    pub fn settle(&mut self, traps: u16, word: u16, t: usize, r: i64) -> Option<Trap>
+        requires { t < 2 }
+        ensures { Settles traps word t r self.old self.new result }
+    {
+        if overflow(r) {
+            return self.exceed(traps, word, t, r);
+        }
+        self.values[t] = r;
+        self.overflow[t] = false;
+        None
+    }
 }

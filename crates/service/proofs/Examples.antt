@@ -40,7 +40,7 @@ use Rattle.runs.specs.Engine.{Engine}
 use Rattle.runs.specs.Ledger.{Entry, Ledger}
 use Rattle.engine.specs.Call.{run_of}
 use Rattle.runs.specs.Holds.{holds}
-use Rattle.runs.proofs.Opened.{engine, exact as exactRuns}
+use Rattle.runs.proofs.Opened.{engine, exact as exact_runs}
 use Rattle.endings.specs.declared.ending.Ending.TheVariants.{Done, Spent, Trap}
 use Rattle.service.specs.Service.{Bag, onward, engine_of, first_before, Served, engine_service, engine_after, call_service, ledger_service}
 use Rattle.service.specs.Exact.{Sound, Every, Pairs, AsFar, NoneLeft, ExactService}
@@ -83,9 +83,9 @@ pub record Told : Type 0 where
 abbrev tells : Stop → ℕ → State → List ℕ → List Entry → Told
 tells e k s memory l = record { stop = e; steps = k; core = s.core; memory = memory; stores = l }
 
--- the ledger's service, opened likewise; resetState, which it does not come to, for must-fail/ledger_from_reset_each_bag
+-- the ledger's service, opened likewise; reset_state, which it does not come to, for must-fail/ledger_from_reset_each_bag
 exact : List Operation → Settings → Engine → List Bag → List Told
-unfolding ledger_service reset_state restarted_state plain_settings exactRuns
+unfolding ledger_service reset_state restarted_state plain_settings exact_runs
 exact p settings x bags =
     map
     (λ v.

@@ -11,12 +11,17 @@ use lib.Dec.{ltb, leb}
 use lib.ListN.{length, get_or, take, drop, set, length-append, length-drop, length-map, length-set}
 use lib.Seq.{length-take-le}
 use Rattle.integers.proofs.Whole.{both}
+use Rattle.program.specs.Answer.{refusal_number}
+use Rattle.program.specs.declared.answer.Refusal.{Refusal}
+use Rattle.program.proofs.Answers.{refused_first}
 use Rattle.program.specs.Bytes.{over}
 use Rattle.program.proofs.Slices.{over_next}
 use Rattle.state.specs.State.{restarted_state}
 use Rattle.state.specs.Typed.{AreWords, Typed}
+use Rattle.state.specs.declared.state.State.{State}
 use Rattle.state.specs.declared.settings.Settings.{Settings}
 use Rattle.machine.specs.Single.{call_refusal}
+use Rattle.machine.proofs.Calls.{refused_some}
 use Rattle.machine.proofs.Words.{take_words, drop_words, append_words}
 use Rattle.endings.specs.Ending.{code_of}
 use Rattle.runs.specs.Engine.{Engine}
@@ -228,26 +233,32 @@ first_state d x = go (length d.budgets)
 
 -- ---- the call
 
-module _ (file : List ℕ) (settings : Settings) (x : Engine) (d : Schedule) (endings steps : List ℕ) where
-  pub service_refused : (n : ℕ) → n ≡ service_refusal file settings x d (length endings) (length steps) → (n ≡ 0 → ⊥)
+-- the first call is made with state s
+module _ (file : List ℕ) (settings : Settings) (x : Engine) (d : Schedule) (endings steps : List ℕ) (s : State)
+    (first : s ≡ cond (ltb 0 (length d.budgets) && get_or d.restarts 0 false) (restarted_state x.state) x.state) where
+  first_refusal : call_refusal file settings s (length x.memory) ≡ call_refusal file settings (first_before (bags_of d) x).state (length x.memory)
+  first_refusal = ap (λ (z : State). call_refusal file settings z (length x.memory)) (first ∙ sym (first_state d x))
+
+  refused_as : (n : ℕ) → n ≡ service_refusal file settings x d (length endings) (length steps) → (n ≡ 0 → ⊥)
       → ServesBags file settings x d endings steps n x endings steps
-  service_refused zero e h = absurd (h refl)
-  service_refused (suc n) e h =
+  refused_as zero e h = absurd (h refl)
+  refused_as (suc n) e h =
       record { refused = e; served = served_none file settings x d endings steps; serves = λ z. absurd (h z) }
 
   -- by the first call's refusal
-  pub refused_first : (n : ℕ) → n ≡ call_refusal file settings (first_before (bags_of d) x).state (length x.memory) → (n ≡ 0 → ⊥)
-      → n ≡ service_refusal file settings x d (length endings) (length steps)
+  pub service_refused : (r : Refusal) → refusal_number r ≡ call_refusal file settings s (length x.memory)
+      → ServesBags file settings x d endings steps (refusal_number r) x endings steps
   unfolding service_refusal
-  refused_first zero e h = absurd (h refl)
-  refused_first (suc n) e h = rw (← e)
+  service_refused r e = refused_as (refusal_number r) (refused_first r _ _ (e ∙ first_refusal)) (refused_some r)
 
-  module _ (none : call_refusal file settings (first_before (bags_of d) x).state (length x.memory) ≡ 0) where
+  module _ (none : call_refusal file settings s (length x.memory) ≡ 0) where
+    accepted : call_refusal file settings (first_before (bags_of d) x).state (length x.memory) ≡ 0
+    accepted = sym first_refusal ∙ none
+
     -- by a slice that is too short
-    pub refused_short : is_enough d (length x.memory) (length endings) (length steps) ≡ false
-        → 8 ≡ service_refusal file settings x d (length endings) (length steps)
+    pub service_short : is_enough d (length x.memory) (length endings) (length steps) ≡ false → ServesBags file settings x d endings steps 8 x endings steps
     unfolding service_refusal
-    refused_short short = rw (none, short)
+    service_short short = refused_as 8 (rw (accepted, short)) (λ e. absurd (omega (arith, e)))
 
     pub service_served : is_enough d (length x.memory) (length endings) (length steps) ≡ true → Typed x.state.core → AreWords x.memory
         → AreWords d.words → (x' : Engine) (endings' steps' : List ℕ)
@@ -255,10 +266,10 @@ module _ (file : List ℕ) (settings : Settings) (x : Engine) (d : Schedule) (en
     unfolding service_refusal
     service_served enough typed ram ok x' endings' steps' h =
         record {
-          refused = rw (none, enough);
+          refused = rw (accepted, enough);
           served = h;
           serves =
               λ z.
-              serves file settings x (bags_of d) none typed ram
+              serves file settings x (bags_of d) accepted typed ram
               (bags_sound d (length x.memory) (length endings) (length steps) (enough_so d _ _ _ enough) ok (length d.budgets) (le_refl (length d.budgets)));
         }

@@ -2,7 +2,8 @@
 use Rattle.std.specs.Prelude.{ℕ, zero, suc, ◌*◌, Bool, false, List, [], ◌∷◌, ◌++◌, length, get_or, take, drop}
 use Rattle.program.specs.Bytes.{over}
 use Rattle.service.specs.Service.{Bag}
-use Rattle.service.specs.declared.call.Window.{Window}
+use Rattle.service.specs.declared.bags.Window.{Window}
+use Rattle.service.specs.declared.bags.Bags.{Bags}
 
 -- the window, and the slices
 pub record Schedule : Type 0 where
@@ -13,6 +14,10 @@ pub record Schedule : Type 0 where
 
 abbrev pub schedule_of : Window → List ℕ → List Bool → List ℕ → Schedule
 schedule_of window budgets restarts words = record { window = window; budgets = budgets; restarts = restarts; words = words }
+
+-- of bags as the code lends them
+abbrev pub schedule_in : Bags → Schedule
+schedule_in b = schedule_of b.window b.budgets.now b.restarts.now b.words.now
 
 -- words put into a memory from word `first` on; what lies before and past them stays
 abbrev pub filled : ℕ → List ℕ → List ℕ → List ℕ

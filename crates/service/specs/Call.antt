@@ -1,8 +1,10 @@
 -- The call that serves a list of bags: refused, or every bag served.
-use Rattle.std.specs.Prelude.{ℕ, ◌+◌, ◌*◌, Bool, cond, ◌&&◌, List, map, ◌≡◌, leb, length}
+use Rattle.std.specs.Prelude.{ℕ, ◌+◌, ◌*◌, Bool, cond, ◌&&◌, List, map, ◌≡◌, leb, length, Result, Ok, Err}
 use Rattle.program.specs.Answer.{◌then◌, if_accepted}
 use Rattle.program.specs.Bytes.{over}
+use Rattle.program.specs.declared.answer.Refusal.{Refusal}
 use Rattle.state.specs.declared.settings.Settings.{Settings}
+use Rattle.state.specs.declared.state.State.{State}
 use Rattle.machine.specs.Single.{call_refusal}
 use Rattle.endings.specs.Ending.{code_of}
 use Rattle.runs.specs.Run.{Stop}
@@ -39,6 +41,11 @@ pub record ServedUpTo (file : List ℕ) (settings : Settings) (x : Engine) (d : 
   pub machine : x' ≡ engine_after x (call_service file settings x (first_bags d n))
   pub ends : endings' ≡ over (map (λ (u : Served). code_in u.result.stop) (call_service file settings x (first_bags d n))) endings
   pub counts : steps' ≡ over (map (λ (u : Served). u.result.steps) (call_service file settings x (first_bags d n))) steps
+
+-- the state after the call's answer: where it is refused the caller's, as it came
+abbrev pub state_left : State → Result State Refusal → State
+state_left s (Ok after) = after
+state_left s (Err r) = s
 
 -- what the call's refusal, the engine and the lent slices after it are promised to be
 pub record ServesBags (file : List ℕ) (settings : Settings) (x : Engine) (d : Schedule) (endings steps : List ℕ)

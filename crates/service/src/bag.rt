@@ -1,6 +1,5 @@
 // One bag.
 ghost use Rattle.std.specs.Prelude.{cond, ◌≡◌, ◌+◌, ◌≤◌, length};
-ghost use Rattle.program.specs.Bytes.{over};
 ghost use Rattle.state.specs.State.{restarted_state};
 ghost use Rattle.engine.specs.Call.{result_of, run_of};
 ghost use Rattle.service.specs.Bags.{filled};
@@ -11,25 +10,12 @@ use engine::outcome::Outcome;
 use state::settings::Settings;
 use state::state::State;
 
-// The words at the start of `to`; the rest of `to` stays.
-fn copy(words: &[u16], to: &mut [u16])
-    requires { length words.now ≤ length to.old }
-    ensures { to.new ≡ over words.now to.old }
-{
-    let mut i = 0;
-    while i < words.len() {
-        to[i] = words[i];
-        i += 1;
-    }
-}
-
 // The words in memory from word `first` on; what lies before and past them stays.
 fn fill(words: &[u16], first: WordIndex, memory: &mut [u16])
     requires { first.0 + length words.now ≤ length memory.old }
     ensures { memory.new ≡ filled first.0 words.now memory.old }
 {
-    let at = first.0;
-    copy(words, &mut memory[at..]);
+    memory[first.0..first.0 + words.len()].copy_from_slice(words);
 }
 
 // The state that a bag's run begins with: back at the program's start, or as the last bag left it.

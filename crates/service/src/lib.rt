@@ -3,4 +3,5 @@
 #![tactic(auto)]
 
 mod bag;
+mod bags;
 pub mod call;

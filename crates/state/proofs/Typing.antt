@@ -1,5 +1,4 @@
 -- A state of the code is typed: a proof of a function that takes one hands on what owning it tells (`c.good`). Assumes nothing.
-use Prim.Native.Nat.{ℕ}
 use mathlib.Core.List.{List}
 use denote.Shadow.{shadow}
 use denote.Struct.Declared.{row}

@@ -6,8 +6,9 @@ ghost use Rattle.state.specs.Accept.{Restarts};
 use accumulator::mode::Mode;
 use accumulator::status::Status;
 
-// Active loops, outermost first, in four slots: DO's number and passes left. A slot that is not in use is zero.
-#[derive(Clone, Copy)]
+// Active loops, outermost first, in four slots: DO's number and passes left. A slot that is not in use is zero. The arrays stay apart: is_slot,
+// stand_in, the stored states and refusal 7 speak of each slot's two numbers, and of states that a tighter type would exclude.
+#[derive(Clone, Copy, Debug, PartialEq, Eq)]
 pub struct Loops {
     pub starts: [usize; 4],
     pub passes: [u32; 4],
@@ -15,7 +16,7 @@ pub struct Loops {
 }
 
 // All of a state but the saturation flags: W0..W13, A and B, pc, active loops, repeat left, the mode word, OA and OB.
-#[derive(Clone, Copy)]
+#[derive(Clone, Copy, Debug, PartialEq, Eq)]
 pub struct Core {
     pub w: [u16; 14],
     pub a: i64,
@@ -29,29 +30,34 @@ pub struct Core {
 }
 
 // A state: the core, SA and SB.
-#[derive(Clone, Copy)]
+#[derive(Clone, Copy, Debug, PartialEq, Eq)]
 pub struct State {
     pub core: Core,
     pub sa: bool,
     pub sb: bool,
 }
 
+impl Loops {
+    // No loop is active.
+    const NONE: Loops = Loops {
+        starts: [0; 4],
+        passes: [0; 4],
+        depth: 0,
+    };
+}
+
 impl State {
     // The state after reset: all is zero except the mode word.
+    #[tactic(auto, unfolding(crate::specs::State::reset_state))]
     pub fn reset() -> State
         ensures { result ≡ reset_state }
     {
-        let loops = Loops {
-            starts: [0; 4],
-            passes: [0; 4],
-            depth: 0,
-        };
         let core = Core {
             w: [0; 14],
             a: 0,
             b: 0,
             pc: 0,
-            loops,
+            loops: Loops::NONE,
             repeat: 0,
             mode: Mode::RESET,
             oa: false,
@@ -69,44 +75,27 @@ impl State {
     pub fn restarted(self) -> State
         ensures { Restarts self result }
     {
-        let before = self.core;
-        let w = before.w;
-        let loops = Loops {
-            starts: [0; 4],
-            passes: [0; 4],
-            depth: 0,
-        };
         let core = Core {
-            w,
-            a: before.a,
-            b: before.b,
             pc: 0,
-            loops,
+            loops: Loops::NONE,
             repeat: 0,
-            mode: before.mode,
-            oa: before.oa,
-            ob: before.ob,
+            ..self.core
         };
-        State {
-            core,
-            sa: self.sa,
-            sb: self.sb,
-        }
+        State { core, ..self }
     }
 
     // The status word SR.
+    #[tactic(auto, unfolding(crate::specs::State::state_status))]
     pub fn status(self) -> u16
         ensures { result ≡ state_status self }
     {
-        let core = self.core;
-        let loops = core.loops;
         let status = Status {
-            oa: core.oa,
-            ob: core.ob,
+            oa: self.core.oa,
+            ob: self.core.ob,
             sa: self.sa,
             sb: self.sb,
-            looping: 0 < loops.depth,
-            repeating: core.repeat != 0,
+            looping: 0 < self.core.loops.depth,
+            repeating: self.core.repeat != 0,
         };
         status.word()
     }

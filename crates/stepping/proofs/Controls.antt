@@ -2,15 +2,13 @@
 use Prim.Native.Nat.{ℕ, ◌≤◌, ◌<◌}
 use mathlib.Core.Path.{◌≡◌, sym, ◌∙◌}
 use mathlib.Core.Bool.{Bool, true, false}
-use mathlib.Core.List.{List}
+use mathlib.Core.List.{List, [], ◌∷◌}
 use mathlib.Core.Logic.{⊎_elim}
 use native.Mathlib.Decide.{dec_le}
 use native.Mathlib.Nat.{eq-or-lt_of_le, lt_of_not-le}
 use native.Mathlib.Omega.{arith}
 use borrow.Author.Tests.{ne_eqb, lt-ltb, le-ltb}
 use lib.IntN.{ℤ}
-use lib.ListN.{length, get_or, set, length-set}
-use lib.Seq.{get_or-set_same, get_or-set_other}
 use Rattle.accumulator.specs.Mode.{mode_of}
 use Rattle.operations.specs.declared.operation.Operation.{Operation}
 use Rattle.operations.specs.declared.operation.Operation.TheVariants.{EndEarly, SetMode, ClearSaturation}
@@ -107,10 +105,10 @@ module _ (settings : Settings) (p : List Operation) (code : List ℕ) (at : ℕ)
   early_in : kind_in code at ≡ 23 → o ≡ EndEarly
   early_in e = control_in_lem code at (omega (arith, e)) ∙ rw e
 
-  pub early_step : kind_in code at ≡ 23 → (passes₁ starts' passes' : List ℕ) (r : Flow) → lent_core w acc oflags starts passes₁ f ≡ ended_early p core
-      → lent_core w acc oflags starts' passes' r ≡ advanced p (lent_core w acc oflags starts passes₁ f) → Steps sflags starts' passes' r
+  pub early_step : kind_in code at ≡ 23 → (starts₁ passes₁ starts' passes' : List ℕ) (r : Flow) → lent_core w acc oflags starts₁ passes₁ f ≡ ended_early p core
+      → lent_core w acc oflags starts' passes' r ≡ advanced p (lent_core w acc oflags starts₁ passes₁ f) → Steps sflags starts' passes' r
   unfolding state_controlled controlled control_of work_of
-  early_step k passes₁ starts' passes' r ended next =
+  early_step k starts₁ passes₁ starts' passes' r ended next =
       rw (← step_quiet settings p o f acc oflags sflags w starts passes memory here (rw (early_in k)), early_in k, next, ended)
 
   -- 24
@@ -131,14 +129,8 @@ module _ (settings : Settings) (p : List Operation) (code : List ℕ) (at : ℕ)
       control_in_lem code at (omega arith)
       ∙ rw (ne_eqb (kind_in code at) 19 (λ e. omega arith), ne_eqb (kind_in code at) 20 (λ e. omega arith), ne_eqb (kind_in code at) 21 (λ e. omega arith), ne_eqb (kind_in code at) 22 (λ e. omega arith), ne_eqb (kind_in code at) 23 n23, ne_eqb (kind_in code at) 24 n24)
 
-  pub clear_step : 22 < kind_in code at → (kind_in code at ≡ 23 → ⊥) → (kind_in code at ≡ 24 → ⊥) → length sflags ≡ 2 → (starts' passes' : List ℕ) (r : Flow)
-      → lent_core w acc oflags starts' passes' r ≡ advanced p core → Steps (set (set sflags 0 false) 1 false) starts' passes' r
+  pub clear_step : 22 < kind_in code at → (kind_in code at ≡ 23 → ⊥) → (kind_in code at ≡ 24 → ⊥) → (starts' passes' : List ℕ) (r : Flow)
+      → lent_core w acc oflags starts' passes' r ≡ advanced p core → Steps (false ∷ false ∷ []) starts' passes' r
   unfolding state_controlled controlled control_of work_of
-  clear_step low n23 n24 two starts' passes' r next =
-      rw (← step_quiet settings p o f acc oflags sflags w starts passes memory here (rw (clear_in low n23 n24)), clear_in low n23 n24, next, first, second)
-    where
-      second : get_or (set (set sflags 0 false) 1 false) 1 false ≡ false
-      second = get_or-set_same (set sflags 0 false) 1 false false (simp length-set (omega arith))
-
-      first : get_or (set (set sflags 0 false) 1 false) 0 false ≡ false
-      first = get_or-set_other (set sflags 0 false) 1 0 false false (λ e. omega arith) ∙ get_or-set_same sflags 0 false false (omega arith)
+  clear_step low n23 n24 starts' passes' r next =
+      rw (← step_quiet settings p o f acc oflags sflags w starts passes memory here (rw (clear_in low n23 n24)), clear_in low n23 n24, next)

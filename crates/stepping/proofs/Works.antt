@@ -13,10 +13,14 @@ use lib.IntN.{ℤ, pos, ◌+ℤ◌}
 use lib.ListN.{length}
 use Rattle.integers.specs.Bits.{signed_of}
 use Rattle.integers.proofs.Whole.{by_test, never}
+use Rattle.std.specs.Prelude.{Option, Some, Result, Ok}
 use Rattle.accumulator.specs.Mode.{mode_of}
 use Rattle.accumulator.specs.Shift.{shift_of, shift_allowed}
 use Rattle.accumulator.specs.declared.mode.Mode.{Mode}
 use Rattle.accumulator.specs.declared.mode.Target.{Target}
+use Rattle.address.specs.Trap.{trap_number, failed_by}
+use Rattle.address.specs.declared.trap.Trap.{Trap}
+use Rattle.address.specs.declared.trap.Trap.TheVariants.{OddAddress, OutsideRegion, ShiftAmount, LoopDepth, LimitsLeft, OverflowA, OverflowB}
 use Rattle.operations.specs.declared.operation.MacClass.{MacClass}
 use Rattle.operations.specs.declared.operation.Operand.{Operand}
 use Rattle.operations.specs.declared.operation.Operand.TheVariants.{Memory}
@@ -42,11 +46,10 @@ use Rattle.machine.specs.Control.{control_of, controlled, advanced, state_contro
 use Rattle.machine.specs.Step.{operation_at, completed, stepped}
 use Rattle.machine.specs.Write.{value_word, put_register, put_memory, settle_of}
 use Rattle.machine.specs.declared.control.Control.TheVariants.{None as Onward}
-use Rattle.operations.specs.Decode.{target_of, post_of}
+use Rattle.operations.specs.Decode.{post_of}
 use Rattle.form.specs.Words.{field, kind_in, coded_at}
 use Rattle.form.proofs.ByKind.{literal_operation, load_operation, store_operation}
-use Rattle.fields.specs.Carried.{Carried, carried_of, carried_in, core_with, Carries}
-use Rattle.fields.specs.declared.carry.Carry.{Carry}
+use Rattle.fields.specs.Carried.{Carried, carried_of, exact_in, carried_in, core_with, Carries}
 use Rattle.sequencer.specs.Lent.{lent_core, lent_state}
 use Rattle.sequencer.specs.declared.flow.Flow.{Flow}
 
@@ -148,10 +151,6 @@ abbrev keeps : Exact → Bool
 keeps Keep = true
 keeps (Replace t r) = false
 
-keeps_all : (b : Bool) (t : Target) (r : ℤ) → cond b (Replace t r) Keep ≡ Keep → b ≡ false
-keeps_all true t r e = never (ap keeps e)
-keeps_all false t r e = refl
-
 unless_keeps : (w : List ℕ) (trap : ℕ) (work : Work) → work.effect.exact ≡ Keep → (unless_trap w trap work).effect.exact ≡ Keep
 unless_keeps w trap work e = by_test (λ (x : Work). x.effect.exact ≡ Keep) (eqb trap 0) {x = work} {y = blocked w trap} (λ t. e) (λ t. refl)
 
@@ -188,12 +187,12 @@ module _ (settings : Settings) (p : List Operation) (o : Operation) (f : Flow) (
   abbrev work : Work
   work = work_of settings mode o (lent_core w acc oflags starts passes f) memory
 
-  module _ (t : Target) (w' memory' : List ℕ) (e : Carry) (carries : carried_in w' memory' t e ≡ carried_of mode work memory) where
-    trap_is : e.trap ≡ work.effect.trap
+  module _ (t : Target) (w' memory' : List ℕ) (e : Result (Option ℤ) Trap) (carries : carried_in w' memory' t e ≡ carried_of mode work memory) where
+    trap_is : failed_by e ≡ work.effect.trap
     unfolding carried_of
     trap_is = ap (λ (x : Carried). x.trap) carries
 
-    exact_is : cond e.writes (Replace t e.r) Keep ≡ work.effect.exact
+    exact_is : exact_in t e ≡ work.effect.exact
     unfolding carried_of
     exact_is = ap (λ (x : Carried). x.exact) carries
 
@@ -206,22 +205,22 @@ module _ (settings : Settings) (p : List Operation) (o : Operation) (f : Flow) (
     memory_is = ap (λ (x : Carried). x.memory) carries
 
     -- a trap 1 to 4
-    pub step_trapped : (e.trap ≡ 0 → ⊥)
-        → record { state = lent_state w' acc oflags sflags starts passes f; memory = memory'; trap = e.trap; counted = false }
+    pub step_trapped : (failed_by e ≡ 0 → ⊥)
+        → record { state = lent_state w' acc oflags sflags starts passes f; memory = memory'; trap = failed_by e; counted = false }
         ≡ stepped p settings (lent_state w acc oflags sflags starts passes f) memory
     unfolding stepped
     step_trapped n =
         let stays = trap_stays settings mode (lent_core w acc oflags starts passes f) memory o (λ z. n (trap_is ∙ z)) in
         let ew : w' ≡ w = ap (λ (x : Carried). x.w) carries ∙ stays.0 in
         let em : memory' ≡ memory = ap (λ (x : Carried). x.memory) carries ∙ stays.1 in
-        rw (here, ← trap_is, ne_eqb e.trap 0 n, ew, em)
+        rw (here, ← trap_is, ne_eqb (failed_by e) 0 n, ew, em)
 
     -- no trap: the result is written and the next operation due
     pub step_done : (acc' : List ℤ) (oflags' sflags' : List Bool) (starts' passes' : List ℕ) (r : Flow) (trap : ℕ)
-        → e.trap ≡ 0
+        → failed_by e ≡ 0
         → control_of o ≡ Onward
         → record { state = lent_state w' acc' oflags' sflags' starts passes f; trap = trap }
-        ≡ settle_of settings.traps mode (cond e.writes (Replace t e.r) Keep) (lent_state w' acc oflags sflags starts passes f)
+        ≡ settle_of settings.traps mode (exact_in t e) (lent_state w' acc oflags sflags starts passes f)
         → lent_core w' acc' oflags' starts' passes' r ≡ advanced p (lent_core w' acc' oflags' starts passes f)
         → record { state = lent_state w' acc' oflags' sflags' starts' passes' r; memory = memory'; trap = trap; counted = true }
         ≡ stepped p settings (lent_state w acc oflags sflags starts passes f) memory
@@ -238,14 +237,24 @@ module _ (settings : Settings) (p : List Operation) (o : Operation) (f : Flow) (
           next,
         )
 
+-- no trap has number 0
+pub trap_some : (t : Trap) → trap_number t ≡ 0 → ⊥
+trap_some OddAddress z = absurd (omega arith)
+trap_some OutsideRegion z = absurd (omega arith)
+trap_some ShiftAmount z = absurd (omega arith)
+trap_some LoopDepth z = absurd (omega arith)
+trap_some LimitsLeft z = absurd (omega arith)
+trap_some OverflowA z = absurd (omega arith)
+trap_some OverflowB z = absurd (omega arith)
+
 -- an operation with a result names an accumulator
-pub writes_low : (settings : Settings) (mode : ℕ) (code : List ℕ) (at : ℕ) (acc : List ℤ) (w memory w' memory' : List ℕ) (e : Carry) (c : Core)
-    → kind_in code at ≤ 18 → Carries settings mode code at acc w memory w' memory' e → e.writes ≡ true → kind_in code at ≤ 15
+pub writes_low : (settings : Settings) (mode : ℕ) (code : List ℕ) (at : ℕ) (acc : List ℤ) (w memory w' memory' : List ℕ) (r : Option ℤ) (c : Core)
+    → kind_in code at ≤ 18 → Carries settings mode code at acc w memory w' memory' (Ok r) → (x : ℤ) → r ≡ Some x → kind_in code at ≤ 15
 unfolding carried_of
-writes_low settings mode code at acc w memory w' memory' e c high carries writes =
+writes_low settings mode code at acc w memory w' memory' r c high carries x some =
     elim (dec_le (kind_in code at) 15) [
       | yes k ↦ k
       | no k ↦
           let exact = ap (λ (x : Carried). x.exact) (carries c) ∙ moves_keep code at settings (mode_of mode) (core_with c w acc) memory (lt_of_not-le k) high in
-          never (sym (keeps_all e.writes (target_of (field code at 1)) e.r exact) ∙ writes)
+          never (ap keeps (rw some at exact))
     ]

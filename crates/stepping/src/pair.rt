@@ -1,61 +1,43 @@
 // One repetition of a pair, kinds 2 to 4 with two reads at pointers and no write-back, that is not the last one.
 ghost use Rattle.std.specs.Prelude.{true, false, List, ◌≡◌, ℕ, ◌≤◌, ◌<◌, length};
 ghost use Rattle.operations.specs.declared.operation.Operation.{Operation};
-ghost use Rattle.form.specs.Form.{Encoded};
 ghost use Rattle.fields.specs.Carried.{Accumulators};
 ghost use Rattle.products.specs.Fetched.{is_pair};
-ghost use Rattle.sequencer.specs.Lent.{Twos};
-ghost use Rattle.sequencer.specs.Settled.{limits_for};
 ghost use Rattle.sequencer.specs.Standing.{Follows};
-ghost use Rattle.stepping.specs.Turned.{Turns};
+ghost use Rattle.sequencer.specs.declared.loops.ActiveLoops.{ActiveLoops};
+ghost use Rattle.stepping.specs.Turned.{held, flow_after, ends_leg, Turns};
 
-use crate::step::{Turn, complete, uncounted};
-use fields::pointer::step_pointer;
-use fields::words::{kind, target, word};
-use products::mac::{accumulated, arrive_pair, fetch_pair, mac_product};
+use crate::step::Turn;
+use address::trap::Trap;
+use fields::words::Coded;
+use products::mac::pair;
 use sequencer::flow::Flow;
-use sequencer::limits::Limits;
-use sequencer::settle::settle;
+use sequencer::sums::Sums;
 use state::settings::Settings;
 
 // The pair at pc is executed in place, and another repetition is due.
 pub fn step_pair(
-    code: &[u16],
-    at: usize,
+    coded: Coded,
     settings: Settings,
-    limits: Limits,
     f: Flow,
-    acc: &mut [i64; 2],
-    oflags: &mut [bool; 2],
-    sflags: &mut [bool; 2],
     w: &mut [u16; 14],
+    sums: &mut Sums,
     memory: &[u16],
-) -> Turn
-    requires encoded { Encoded code.now at }
-    requires at_value { is_pair code.now at ≡ true }
+) -> Result<Turn, Trap>
+    requires at_value { is_pair coded.code.now coded.at ≡ true }
     requires xwords_in_bounds { settings.xwords ≤ length memory.now }
-    requires limits_value { limits ≡ limits_for settings.traps f.mode }
-    requires accumulators { Accumulators acc.old }
-    requires twos { Twos acc.old oflags.old sflags.old }
+    requires accumulators { Accumulators sums.old.values }
     requires lt_repeat { 1 < f.repeat }
-    ensures turns { (p : List Operation) (starts passes lasts : List ℕ) → Follows p code.now at f starts lasts → Turns p settings f (record { w = w.old; acc = acc.old; oflags = oflags.old; sflags = sflags.old; starts = starts; passes = passes; lasts = lasts; memory = memory.now }) (record { w = w.new; acc = acc.new; oflags = oflags.new; sflags = sflags.new; starts = starts; passes = passes; lasts = lasts; memory = memory.now }) result }
-    ensures pc_value { result.flow.pc ≡ f.pc }
-    ensures ends_value { result.ends ≡ false }
+    ensures turns { (p : List Operation) (loops : ActiveLoops) → Follows p coded.entry.code.now coded.entry.at f loops → Turns p settings f (held (record { w = w.old; sums = sums.old; loops = loops }) memory.now) (held (record { w = w.new; sums = sums.new; loops = loops }) memory.now) result }
+    ensures pc_value { (flow_after f result).pc ≡ f.pc }
+    ensures ends_value { ends_leg result ≡ false }
 {
-    let fetched = fetch_pair(code, at, settings, w, memory);
-    let blocked = fetched.trap;
-    if blocked != 0 {
-        return uncounted(f, blocked);
-    }
-    let xa = fetched.xa;
-    let ya = fetched.ya;
-    let t = target(code, at);
-    let p = mac_product(code, at, f.mode, w);
-    step_pointer(settings.x, word(code, at, 4), xa, word(code, at, 5), w);
-    step_pointer(settings.y, word(code, at, 6), ya, word(code, at, 7), w);
-    arrive_pair(code, at, fetched.x, fetched.y, w);
-    let r = accumulated(kind(code, at), acc[t], p);
-    let trap = settle(limits, t, r, acc, oflags, sflags);
+    let r = pair(coded, settings, f.mode, &sums.values, w, memory)?;
+    let trap = sums.settle(settings.traps, f.mode, coded.target(), r);
     let flow = f.at(f.pc, f.depth, f.repeat - 1);
-    complete(flow, trap, false)
+    Ok(Turn {
+        flow,
+        trap,
+        ends: false,
+    })
 }

@@ -1,40 +1,36 @@
--- 64 bits in two halves fit an i64. Assumes nothing.
-use mathlib.Core.Path.{◌≡◌}
-use Prim.Native.Nat.{ℕ, ◌^◌, ◌≤◌, ◌<◌}
-use native.Mathlib.Nat.{lt_of_lt_of_le}
-use lib.Dec.{lit≤}
-use lib.IntN.{ℤ, pos, ◌+ℤ◌, ◌-ℤ◌, ◌*ℤ◌}
-use mir.Syntax.{w64}
-use mir.Val.{SFits, to_z}
-use mir.Facts.{to_z_pos}
+-- 64 bits of two halves, read as signed. Assumes nothing.
+use Prim.Native.Nat.{ℕ, ◌+◌, ◌*◌, ◌-◌, ◌^◌, ◌≤◌, ◌<◌, suc}
+use mathlib.Core.Path.{◌≡◌, ap, ◌∙◌}
+use native.Mathlib.Omega.{arith}
 use borrow.Author.Tests.{lt-ltb, le-ltb}
+use lib.IntN.{pos, negsuc}
+use mir.Syntax.{w64}
+use mir.Val.{to_z}
+use Rattle.std.proofs.Math.Facts.{to_z-neg}
+use Rattle.std.proofs.lemmas.Int.{to_z_pos, ints}
+use Rattle.std.proofs.lemmas.Bool.{cases_lt}
+use Rattle.std.proofs.Common.{inl, inr}
 use Rattle.integers.specs.Bits.{signed_of}
-use Rattle.integers.proofs.Low.{signed_within}
-use Rattle.integers.proofs.Whole.{whole, size, sum, less, times}
+use Rattle.stream.specs.Header.{eight_bytes_of}
 
--- 32 bits, read with 64
-pub wide : (n : ℕ) → n < 2 ^ 32 → to_z w64 n ≡ pos n
-wide n h = to_z_pos w64 (lt_of_lt_of_le h (lit≤ tt))
-
-pub less_fits : (n : ℕ) → n < 2 ^ 32 → SFits w64 (to_z w64 n -ℤ pos 0x100000000)
-less_fits n h = rw (wide n h) (omega (whole, h, size (pos n -ℤ pos 0x100000000), less (pos n) (pos 0x100000000)))
-
--- read as signed
-pub signed_low : (n : ℕ) → n < 0x80000000 → to_z w64 n ≡ signed_of 32 n
+-- the high half is below 2^31
+pub halves_low : (low high : ℕ) → low < 2 ^ 32 → high < 2 ^ 31 → to_z w64 (low + high * 2 ^ 32) ≡ eight_bytes_of low high
 unfolding signed_of
-signed_low n h = rw (lt-ltb n 0x80000000 h) (to_z_pos w64 (lt_of_lt_of_le h (lit≤ tt)))
+halves_low low high l h =
+    rw (lt-ltb high (2 ^ 31) h, to_z_pos w64 (low + high * 2 ^ 32) (omega arith)) (ap pos (omega arith))
 
-pub signed_high : (n : ℕ) → n < 2 ^ 32 → 0x80000000 ≤ n → to_z w64 n -ℤ pos 0x100000000 ≡ signed_of 32 n
+last : (low high : ℕ) → low < 2 ^ 32 → high < 2 ^ 32 → 2 ^ 31 ≤ high → negsuc (2 ^ 64 - 1 - (low + high * 2 ^ 32)) ≡ eight_bytes_of low high
 unfolding signed_of
-signed_high n h l = rw (le-ltb n 0x80000000 l, wide n h)
+last low high l h b = rw (le-ltb high (2 ^ 31) b) (omega (arith, ints))
 
-pub top_fits : (n : ℕ) → n < 2 ^ 32 → SFits w64 (signed_of 32 n *ℤ pos 0x100000000)
-top_fits n h =
-    let z : ℤ = signed_of 32 n in
-    omega (whole, signed_within 31 n h, size z, size (z *ℤ pos 0x100000000), times z 0x100000000)
+-- the high half is not below 2^31
+pub halves_high : (low high : ℕ) → low < 2 ^ 32 → high < 2 ^ 32 → 2 ^ 31 ≤ high → to_z w64 (low + high * 2 ^ 32) ≡ eight_bytes_of low high
+unfolding signed_of
+halves_high low high l h b =
+    let k : ℕ = 2 ^ 64 - 1 - (low + high * 2 ^ 32) in
+    let same : low + high * 2 ^ 32 ≡ 2 ^ 64 - suc k = omega arith in
+    let below : k < 2 ^ 63 = omega arith in
+    ap (to_z w64) same ∙ to_z-neg w64 k below ∙ last low high l h b
 
-pub joined_fits : (n low : ℕ) → n < 2 ^ 32 → low < 2 ^ 32 → SFits w64 (signed_of 32 n *ℤ pos 0x100000000 +ℤ to_z w64 low)
-joined_fits n low h l =
-    let z : ℤ = signed_of 32 n in
-    let top : ℤ = z *ℤ pos 0x100000000 in
-    rw (wide low l) (omega (whole, signed_within 31 n h, l, size z, times z 0x100000000, sum top (pos low), size (top +ℤ pos low)))
+pub halves : (low high : ℕ) → low < 2 ^ 32 → high < 2 ^ 32 → to_z w64 (low + high * 2 ^ 32) ≡ eight_bytes_of low high
+halves low high l h = elim (cases_lt high (2 ^ 31)) [ inl p ↦ halves_low low high l p | inr q ↦ halves_high low high l h q ]

@@ -1,3 +1,3 @@
 pub mod HeaderExamples
 pub mod Halves
-pub mod Words
+pub mod Registers

@@ -1,32 +1,18 @@
 // The boards of a case that combines stretches, 9 bytes each: A, then SA.
 ghost use Rattle.std.specs.Prelude.{◌≡◌, ◌+◌, ◌*◌, ◌<◌, ◌≤◌, length};
-ghost use Rattle.stream.specs.Header.{four_bytes_at};
 ghost use Rattle.stream.specs.Boards.{board_in, entry_in, boards_in};
 
-use crate::header::{eight_bytes, four_bytes, two_bytes};
+use crate::bytes::eight_bytes_at;
 use combine::board::Board;
-
-// The 32 bits from `at` on.
-fn four_bytes_at(bytes: &[u8], at: usize) -> u32
-    requires { at + 3 < length bytes.now }
-    ensures { result ≡ four_bytes_at bytes.now at }
-{
-    let low = two_bytes(bytes[at], bytes[at + 1]);
-    let high = two_bytes(bytes[at + 2], bytes[at + 3]);
-    four_bytes(low, high)
-}
 
 // Board i.
 fn board(bytes: &[u8], i: usize) -> Board
     requires { 9 * i + 8 < length bytes.now }
     ensures { result ≡ board_in bytes.now i }
 {
-    let at = 9 * i;
-    let low = four_bytes_at(bytes, at);
-    let high = four_bytes_at(bytes, at + 4);
     Board {
-        a: eight_bytes(low, high),
-        sa: bytes[at + 8] != 0,
+        a: eight_bytes_at(bytes, 9 * i),
+        sa: bytes[9 * i + 8] != 0,
     }
 }
 
@@ -42,7 +28,8 @@ fn entry(bytes: &[u8], count: usize, i: usize) -> Board
     }
 }
 
-// The eight entries.
+// The eight entries. They are written out: `map` and `array::from_fn` say of their closure's calls eight steps from state to state, and the check makes no list of them.
+#[tactic(auto, unfolding(crate::specs::Boards::boards_in))]
 pub fn boards(bytes: &[u8], count: usize) -> [Board; 8]
     requires { 9 * count ≤ length bytes.now }
     ensures { result ≡ boards_in bytes.now count }

@@ -1,11 +1,10 @@
 -- The program `tally`: what is run, and the line that is printed for it.
-use Rattle.std.specs.Prelude.{ℕ, List, replicate}
+use Rattle.std.specs.Prelude.{ℕ, List, ◌≡◌, replicate}
 use Rattle.state.specs.Settings.{plain_settings}
 use Rattle.state.specs.State.{reset_state}
 use Rattle.state.specs.declared.settings.Settings.{Settings}
 use Rattle.engine.specs.Call.{Runs}
 use Rattle.engine.specs.declared.outcome.Outcome.{Outcome}
-use Rattle.text.specs.Buffer.{BeginsWith}
 use Rattle.report.specs.Line.{tally_line}
 
 -- 1,024 words X, no correction, trap word 0
@@ -20,9 +19,9 @@ tally_memory = replicate 2048 0
 abbrev pub tally_budget : ℕ
 tally_budget = 100000
 
--- the line of a file's run from the reset state stands at the start of the buffer: r is its length, and what lies past it stays
-pub record Tallies (file old : List ℕ) (r : ℕ) (after : List ℕ) : Type 0 where
+-- a text is the line of a file's run from the reset state
+pub record Tallies (file text : List ℕ) : Type 0 where
   pub outcome : Outcome
   pub memory : List ℕ
   pub runs : Runs file tally_settings reset_state tally_memory tally_budget outcome memory
-  pub line : BeginsWith (tally_line outcome) old r after
+  pub line : text ≡ tally_line outcome

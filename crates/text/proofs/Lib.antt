@@ -1,5 +1,2 @@
-pub mod TextExamples
-pub mod Magnitude
-pub mod Appending
-pub mod Decimal
-pub mod Fields
+pub mod Texts
+mod TextExamples

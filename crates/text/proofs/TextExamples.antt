@@ -4,7 +4,6 @@ use mathlib.Core.Bool.{true, false}
 use mathlib.Core.List.{[], ◌∷◌}
 use lib.IntN.{pos}
 use Rattle.integers.specs.Range.{minus}
-use Rattle.text.specs.Buffer.{over_at}
 use Rattle.text.specs.Text.{number_text, signed_text, word_text, before_zero, field_of, flag_text, fields_of, check_of, check_field}
 
 -- ---- numbers and words
@@ -105,9 +104,3 @@ check_none = refl
 check_field_lem : check_field (2 ∷ 3 ∷ []) ≡ 32 ∷ 54 ∷ 53 ∷ []
 unfolding number_text
 check_field_lem = refl
-
--- ---- a text in a buffer
-
--- from byte 1 on: what lies before it and past it stays
-in_the_middle : over_at 1 (7 ∷ 8 ∷ []) (1 ∷ 2 ∷ 3 ∷ 4 ∷ []) ≡ 1 ∷ 7 ∷ 8 ∷ 4 ∷ []
-in_the_middle = refl

@@ -1,3 +1,2 @@
--- Text in a lent buffer: what is left in the buffer; numbers, words, fields, check numbers.
-pub mod Buffer
+-- Text: numbers, words, fields, check numbers.
 pub mod Text

@@ -42,8 +42,8 @@ abbrev pub flag_text : Bool → List ℕ
 flag_text true = 49 ∷ []
 flag_text false = 48 ∷ []
 
--- a field for each number of a list, by the text of a number
-abbrev pub fields_of : (ℕ → List ℕ) → List ℕ → List ℕ
+-- a field for each item of a list, by the text of an item
+abbrev pub fields_of : {A : Type 0} → (A → List ℕ) → List A → List ℕ
 fields_of text [] = []
 fields_of text (n ∷ s) = field_of (text n) ++ fields_of text s
 

@@ -1,63 +1,80 @@
 // The check numbers of lists.
-ghost use Rattle.std.specs.Prelude.{◌≡◌, ◌+◌, ◌*◌, ◌%◌, ◌^◌};
+ghost use Rattle.std.specs.Prelude.{◌≡◌, ◌+◌, ◌*◌, ◌%◌, ◌^◌, ℕ, List, [], ◌∷◌, refl};
 ghost use Rattle.text.specs.Text.{check_from};
 
+// A type whose values go into a check. The three impls stay: under one bound, as `u32: From<T>`, a conversion is a relation, so each caller would prove the list of numbers,
+// where here `numbers s` computes to `s`.
+pub trait Checked: Copy {
+    // The number that a value counts as.
+    ghost number: { Self → ℕ };
+
+    // The numbers of a list of values.
+    ghost numbers: { List Self → List ℕ };
+
+    fn number(self) -> u32
+        ensures { result ≡ number self };
+
+    ghost none: { numbers [] ≡ [] };
+
+    ghost first: { (x : Self) (s : List Self) → numbers (x ∷ s) ≡ number x ∷ numbers s };
+}
+
+impl Checked for u8 {
+    ghost number = { λ x. x };
+
+    ghost numbers = { λ s. s };
+
+    ghost none = { refl };
+
+    ghost first = { λ _ _. refl };
+
+    fn number(self) -> u32 {
+        u32::from(self)
+    }
+}
+
+impl Checked for u16 {
+    ghost number = { λ x. x };
+
+    ghost numbers = { λ s. s };
+
+    ghost none = { refl };
+
+    ghost first = { λ _ _. refl };
+
+    fn number(self) -> u32 {
+        u32::from(self)
+    }
+}
+
+impl Checked for u32 {
+    ghost number = { λ x. x };
+
+    ghost numbers = { λ s. s };
+
+    ghost none = { refl };
+
+    ghost first = { λ _ _. refl };
+
+    fn number(self) -> u32 {
+        self
+    }
+}
+
 // The check with one number more: 31 h + x modulo 2^32.
-fn next_check(h: u32, x: u32) -> u32
+pub fn next_check(h: u32, x: u32) -> u32
     ensures { result ≡ (31 * h + x) % 2 ^ 32 }
 {
-    ((31 * h as u64 + x as u64) % 4294967296) as u32
+    h.wrapping_mul(31).wrapping_add(x)
 }
 
-// A word as a number.
-fn word_number(x: u16) -> u32
-    ensures { result ≡ x }
-{
-    x as u32
-}
-
-// A byte as a number.
-fn byte_number(x: u8) -> u32
-    ensures { result ≡ x }
-{
-    x as u32
-}
-
-// The check of words, from h on.
-pub fn check_words(h: u32, words: &[u16]) -> u32
-    ensures { result ≡ check_from h words.now }
+// The check of a list, from h on.
+pub fn check<T: Checked>(h: u32, items: &[T]) -> u32
+    ensures { result ≡ check_from h (T.numbers items.now) }
 {
     let mut check = h;
-    let mut i = 0;
-    while i < words.len() {
-        check = next_check(check, word_number(words[i]));
-        i += 1;
-    }
-    check
-}
-
-// The check of bytes, from h on.
-pub fn check_bytes(h: u32, bytes: &[u8]) -> u32
-    ensures { result ≡ check_from h bytes.now }
-{
-    let mut check = h;
-    let mut i = 0;
-    while i < bytes.len() {
-        check = next_check(check, byte_number(bytes[i]));
-        i += 1;
-    }
-    check
-}
-
-// The check of numbers, from h on.
-pub fn check_longs(h: u32, longs: &[u32]) -> u32
-    ensures { result ≡ check_from h longs.now }
-{
-    let mut check = h;
-    let mut i = 0;
-    while i < longs.len() {
-        check = next_check(check, longs[i]);
-        i += 1;
+    for item in items {
+        check = next_check(check, item.number());
     }
     check
 }

@@ -1,7 +1,7 @@
-// Text in a lent buffer: numbers in decimal, words in hexadecimal, fields, check numbers.
+// Text on a line of fixed size: numbers in decimal, words in hexadecimal, fields, check numbers.
 #![tactic(auto)]
 
-pub mod buffer;
 pub mod check;
-pub mod field;
-pub mod text;
+pub mod item;
+pub mod line;
+pub mod magnitude;

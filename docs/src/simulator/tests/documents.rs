@@ -1,5 +1,5 @@
 //! The documents beside the proved code: docs/GUARANTEES.md has every public function
-//! that asks something of its caller, docs/TRACE.md names what stands in the tree, a
+//! that asks something of its caller and every type that carries a fact, docs/TRACE.md names what stands in the tree, a
 //! name is defined in one file of definitions, no table stands in code or definitions, and
 //! what steps takes no bytes.
 
@@ -55,33 +55,71 @@ fn asks(lines: &[&str]) -> bool {
     false
 }
 
+/// A head without what stands in angle brackets.
+fn bare(head: &str) -> String {
+    let mut depth = 0;
+    let outside = |c: char| {
+        match c {
+            '<' => depth += 1,
+            '>' => depth -= 1,
+            _ => return (depth == 0).then_some(c),
+        }
+        None
+    };
+    head.chars().filter_map(outside).collect()
+}
+
 /// The public functions of a source file that ask something: `NAME`, or `TYPE::NAME` in an `impl`.
 fn asking(source: &str) -> Vec<String> {
     let lines: Vec<&str> = source.lines().collect();
     let mut found = Vec::new();
     let mut of = String::new();
     for (i, line) in lines.iter().enumerate() {
-        if let Some(name) = line.strip_prefix("impl ") {
-            of = name.trim_end_matches('{').trim().to_string() + "::";
+        if line.starts_with("impl") {
+            of = bare(&line["impl".len()..])
+                .trim_end_matches('{')
+                .trim()
+                .to_string()
+                + "::";
         } else if *line == "}" {
             of.clear();
         }
         if let Some(head) = line.trim().strip_prefix("pub fn ") {
             if asks(&lines[i..]) {
-                found.push(of.clone() + head.split('(').next().unwrap());
+                found.push(of.clone() + bare(head).split('(').next().unwrap());
             }
         }
     }
     found
 }
 
-/// All of them, as `CRATE::FILE::NAME`.
-fn all_asking() -> BTreeSet<String> {
+/// The structs of a source file with a ghost field, a fact that each value carries.
+fn carrying(source: &str) -> Vec<String> {
+    let mut found = Vec::new();
+    let mut of = String::new();
+    for line in source.lines() {
+        let head = line.strip_prefix("pub ").unwrap_or(line);
+        if let Some(name) = head.strip_prefix("struct ") {
+            of = bare(name).trim_end_matches('{').trim().to_string();
+        } else if line == "}" {
+            of.clear();
+        }
+        let field = line.trim();
+        let field = field.strip_prefix("pub ").unwrap_or(field);
+        if field.starts_with("ghost ") && !of.is_empty() {
+            found.push(std::mem::take(&mut of));
+        }
+    }
+    found
+}
+
+/// What is found in every source file, as `CRATE::FILE::NAME`.
+fn in_all(found_in: fn(&str) -> Vec<String>) -> BTreeSet<String> {
     let mut found = BTreeSet::new();
     for krate in names("crates") {
         for file in names(&format!("crates/{krate}/src")) {
             let stem = file.trim_end_matches(".rt");
-            for name in asking(&text(&format!("crates/{krate}/src/{file}"))) {
+            for name in found_in(&text(&format!("crates/{krate}/src/{file}"))) {
                 found.insert(format!("{krate}::{stem}::{name}"));
             }
         }
@@ -89,21 +127,35 @@ fn all_asking() -> BTreeSet<String> {
     found
 }
 
-#[test]
-fn guarantees_have_every_public_function_that_asks() {
-    let head = ["crate", "functions", "ask", "who sees to it"];
+/// The table of docs/GUARANTEES.md with this head has these names and no others.
+fn is_listed(head: &[&str], standing: BTreeSet<String>) {
     let mut listed = BTreeSet::new();
-    for row in rows(&text("docs/GUARANTEES.md"), &head) {
+    for row in rows(&text("docs/GUARANTEES.md"), head) {
         for name in row[1].split(", ") {
             listed.insert(format!("{}::{}", row[0], name.trim_matches('`')));
         }
     }
-    let standing = all_asking();
     let missing: Vec<_> = standing.difference(&listed).collect();
     let too_many: Vec<_> = listed.difference(&standing).collect();
     assert!(
         missing.is_empty() && too_many.is_empty(),
         "the table in docs/GUARANTEES.md lacks {missing:#?}\nand has too many {too_many:#?}"
+    );
+}
+
+#[test]
+fn guarantees_have_every_public_function_that_asks() {
+    is_listed(
+        &["crate", "functions", "ask", "who sees to it"],
+        in_all(asking),
+    );
+}
+
+#[test]
+fn guarantees_have_every_type_that_carries_a_fact() {
+    is_listed(
+        &["crate", "types", "fact", "who builds it"],
+        in_all(carrying),
     );
 }
 

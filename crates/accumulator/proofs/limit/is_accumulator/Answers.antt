@@ -1,5 +1,5 @@
 -- `limit::is_accumulator` meets its contract, by what `outside` ensures. Assumes nothing.
-use Rattle.std.proofs.Common.{to_z-of_z, rules}
+use Rattle.std.proofs.Common.{to_z-of_z}
 use Rattle.accumulator.specs.Limit.{is_accumulator}
 use Rattle.accumulator.proofs.limit.is_accumulator.Goals as goal
 

@@ -2,7 +2,6 @@
 use Rattle.std.proofs.Common.{◌≡◌, true, sym, ◌∙◌, to_z-of_z}
 use Rattle.integers.proofs.Fitting.{gave}
 use Rattle.accumulator.specs.Limit.{has_left, kept_of}
-use Rattle.accumulator.proofs.Sizes.{bits_le}
 use Rattle.accumulator.proofs.limit.kept.Goals as goal
 use Rattle.accumulator.proofs.limit.kept.Goals.{Then-left}
 
@@ -10,16 +9,11 @@ use Rattle.accumulator.proofs.limit.kept.Goals.{Then-left}
 out : (c : Then-left) → let a = c.args in has_left a.mode a.target a.r ≡ true
 out c = simp (to_z-of_z c.ranges.r) at (sym c.left.ensures ∙ c.if-left.true)
 
-pub nearer-requires : goal.nearer-requires
-nearer-requires c =
-    let a = c.args in
-    rw c.limit_bits.ensures (bits_le a.mode a.target)
-
 pub returns-then-saturates : goal.returns-then-saturates
 unfolding kept_of
 returns-then-saturates c =
     rw
-    (gave c.nearer.ensures c.nearer.type_inv, c.limit_bits.ensures, to_z-of_z c.ranges.r, out (goal.at.returns-then-saturates c).Then-left, ← c.saturates.ensures, c.if-saturates.true)
+    (gave c.nearer.ensures c.nearer.type_inv, c.limits.ensures, to_z-of_z c.ranges.r, out (goal.at.returns-then-saturates c).Then-left, ← c.saturates.ensures, c.if-saturates.true)
 
 pub returns-else-saturates : goal.returns-else-saturates
 unfolding kept_of

@@ -1,5 +1,5 @@
 -- `limit::overflow` meets its contract, by what `outside` ensures. Assumes nothing.
-use Rattle.std.proofs.Common.{to_z-of_z, rules}
+use Rattle.std.proofs.Common.{to_z-of_z}
 use Rattle.accumulator.specs.Limit.{overflows}
 use Rattle.accumulator.proofs.limit.overflow.Goals as goal
 

@@ -1,17 +1,15 @@
--- `product::signed` meets its contract: half the range added wraps, and taken off again leaves the signed number. Assumes nothing.
-use Rattle.std.proofs.Common.{to_z-of_z, w16, Fits, rules}
-use Rattle.integers.proofs.Fitting.{word_plain}
-use Rattle.accumulator.proofs.Raised.{raised_fits, signed_raised}
+-- `product::signed` meets its contract: the library's reading is the definition's. Assumes nothing.
+use Rattle.std.proofs.Common.{◌≡◌, ℕ, ◌^◌, ◌<◌, ◌∙◌, arith, w16, to_z, to_z-of_z, FitsSigned, rules}
+use Rattle.std.proofs.lemmas.Int.{ints}
+use Rattle.integers.specs.Bits.{signed_of}
+use Rattle.integers.proofs.Fitting.{gave}
 use Rattle.accumulator.proofs.product.signed.Goals as goal
 
-pub overflow_sub-result : goal.overflow_sub-result
-overflow_sub-result c =
-    let raised : Fits w16 c.wrapping_add_u16-raised.result = search rules in
-    rw (word_plain raised) (raised_fits c.wrapping_add_u16-raised.result raised.fits)
+signed_is : (n : ℕ) → n < 2 ^ 16 → to_z w16 n ≡ signed_of 16 n
+unfolding signed_of
+signed_is n h = grind (arith, ints)
 
 pub returns : goal.returns
 returns c =
-    let raised : Fits w16 c.wrapping_add_u16-raised.result = search rules in
-    let word : Fits w16 c.args.word = search rules in
-    rw (word_plain raised, to_z-of_z (raised_fits c.wrapping_add_u16-raised.result raised.fits))
-    (signed_raised c.args.word c.wrapping_add_u16-raised.result word.fits c.wrapping_add_u16-raised.ensures.value)
+    let fits : FitsSigned w16 c.cast_signed.result = search rules in
+    gave (c.from.ensures ∙ to_z-of_z fits ∙ c.cast_signed.ensures ∙ signed_is c.args.word c.ranges.word.fits) c.from.type_inv

@@ -1,5 +1,5 @@
 -- `shift::shift` meets its contract: the amount is the size of n, and 1 << k is 2^k for k up to 16. Assumes nothing.
-use Rattle.std.proofs.Common.{◌≡◌, ℕ, ◌*◌, ◌^◌, ◌≤◌, true, false, ℤ, pos, negsuc, ◌-ℤ◌, ◌*ℤ◌, nat_abs, refl, le_trans, lt_of_le_of_lt, lit<, lit≤, pow_mono, to_z-of_z, w64, SFits, of_z}
+use Rattle.std.proofs.Common.{◌≡◌, ℕ, ◌^◌, ◌≤◌, true, false, ℤ, pos, negsuc, ◌-ℤ◌, ◌*ℤ◌, nat_abs, refl, le_trans, lt_of_le_of_lt, lit<, lit≤, pow_mono, to_z-of_z, w64, SFits, of_z}
 use lib.Signed.{lt_z}
 use Rattle.integers.specs.Range.{Within}
 use Rattle.integers.proofs.Whole.{whole, size, less, abs_is, product_le}

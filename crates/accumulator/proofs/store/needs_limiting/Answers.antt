@@ -1,5 +1,5 @@
 -- `store::needs_limiting` meets its contract, by what `outside` ensures. Assumes nothing.
-use Rattle.std.proofs.Common.{to_z-of_z, rules}
+use Rattle.std.proofs.Common.{to_z-of_z}
 use Rattle.accumulator.specs.Store.{needs_limiting}
 use Rattle.accumulator.proofs.store.needs_limiting.Goals as goal
 

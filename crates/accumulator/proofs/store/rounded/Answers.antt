@@ -19,7 +19,7 @@ overflow_add-result c =
 test : (c : After-rounds_up) → let a = c.args in rounds_up a.mode (shr_z a.v 65536) (low_bits 16 a.v) ≡ c.rounds_up.result
 test c =
     sym
-    (simp (to_z-of_z c.ranges.v, floor_plain 65536 c.ranges.v) at (rw c.low16.ensures at c.rounds_up.ensures))
+    (simp (to_z-of_z c.ranges.v, floor_plain 65536 c.ranges.v) at (rw c.low_word.ensures at c.rounds_up.ensures))
 
 pub returns-then-rounds_up : goal.returns-then-rounds_up
 unfolding rounded_of

@@ -1,5 +1,5 @@
 -- `reversal::exchanged` meets its contract: the mask is so short that no bit is shifted out. Assumes nothing.
-use Rattle.std.proofs.Common.{◌-◌, lt_of_le_of_lt, arith, shl_exact, rules}
+use Rattle.std.proofs.Common.{◌-◌, lt_of_le_of_lt, arith, shl_exact}
 use lib.Bits.{and_le_r}
 use Rattle.address.proofs.reversal.exchanged.Goals as goal
 

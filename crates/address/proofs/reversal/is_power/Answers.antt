@@ -4,4 +4,4 @@ use Rattle.address.proofs.reversal.is_power.Goals as goal
 
 pub returns : goal.returns
 unfolding is_power
-returns c = rw c.width.ensures
+returns c = rw c.of.ensures

@@ -7,10 +7,9 @@ use borrow.Author.Rules.{rules}
 use Rattle.effects.proofs.Sums.{sum_fits}
 use Rattle.combine.specs.Boards.{added}
 use Rattle.combine.proofs.sum.add.Goals as goal
-use Rattle.combine.proofs.sum.add.Goals.{After-struct_told-1}
 
-pub overflow_add-r : goal.overflow_add-r
-overflow_add-r c =
+pub overflow_add-before : goal.overflow_add-before
+overflow_add-before c =
     let v = c.args.before.value in
     let a = c.args.a in
     let back : to_z w64 (of_z w64 v) ≡ v = search rules in
@@ -20,5 +19,6 @@ pub returns : goal.returns
 unfolding added
 returns c =
     let v = c.args.before.value in
+    let a = c.args.a in
     let back : to_z w64 (of_z w64 v) ≡ v = search rules in
-    c.write.ensures ∙ rw (to_z-of_z (overflow_add-r (goal.at.returns c).After-struct_told-1), back, to_z-of_z c.ranges.a)
+    c.write.ensures ∙ rw (back, to_z-of_z c.ranges.a, to_z-of_z (sum_fits v a c.requires.value_value c.requires.a_value))

@@ -1,32 +1,14 @@
--- `sum::any_set` meets its contract. The invariant: the flag so far is that of the boards passed. Assumes nothing.
-use Prim.Native.Nat.{◌≤◌, ◌-◌}
-use mathlib.Core.Path.{◌≡◌, refl}
-use native.Mathlib.Numerals.{add-one}
-use native.Mathlib.Omega.{arith}
-use Rattle.combine.specs.Boards.{any_set}
+-- `sum::any_set` meets its contract. Assumes nothing.
+use Rattle.std.proofs.Common.{◌≡◌, ◌∙◌, rules, tests}
+use Rattle.std.proofs.lemmas.Iterator.{YieldsList-from_slice}
+use Rattle.std.proofs.lemmas.Iterator.Search.{any_from_yields_List}
+use Rattle.std.specs.List.{list_any}
+use Rattle.combine.specs.declared.board.Board.{Board}
+use Rattle.combine.proofs.Fronts.{any_is}
 use Rattle.combine.proofs.sum.any_set.Goals as goal
-
-pub loop-i-init : goal.loop-i-init
-unfolding any_set
-loop-i-init c = (omega arith, refl)
-
-pub offset_bounds-boards-i : goal.offset_bounds-boards-i
-offset_bounds-boards-i c = omega arith
-
-pub bounds-boards-i : goal.bounds-boards-i
-bounds-boards-i c = omega arith
-
-pub overflow_add-i : goal.overflow_add-i
-overflow_add-i c = omega arith
-
-pub loop-i-smaller : goal.loop-i-smaller
-loop-i-smaller c = omega arith
-
-pub loop-i-preserved : goal.loop-i-preserved
-unfolding any_set
-loop-i-preserved c = (omega arith, rw (add-one, c.loop-i.invariant.1))
 
 pub returns : goal.returns
 returns c =
-    let done : c.loop-i.i ≡ c.args.count = omega arith in
-    rw (← done) c.loop-i.invariant.1
+    let any : c.any.result ≡ list_any (λ (b : Board). b.sa) c.args.boards.now =
+    any_from_yields_List (λ (b : Board). b.sa) _ _ c.any.result c.any.ensures.ran (YieldsList-from_slice c.args.boards.now cc) (λ x b q k. search (rules, tests)) in
+    any ∙ any_is c.args.boards.now

@@ -7,7 +7,6 @@ use borrow.Author.Tests.{leb-true, ltb-true, le-leb, lt-ltb}
 use Rattle.integers.proofs.Whole.{both, never}
 use Rattle.operations.specs.declared.operation.Operation.TheVariants.{EndEarly}
 use Rattle.engine.proofs.Windows.{one_window}
-use borrow.Author.Rules.{rules}
 use Rattle.engine.proofs.run.cover.Goals as goal
 
 pub returns-then-at-pc : goal.returns-then-at-pc

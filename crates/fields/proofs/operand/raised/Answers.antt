@@ -1,33 +1,16 @@
 -- `operand::raised` meets its contract: the bit-reversed register in a store, or another. Assumes nothing.
-use mathlib.Core.Bool.{Bool, true, false, ◌&&◌}
-use mathlib.Core.Path.{◌≡◌, refl, ◌∙◌}
-use Prim.Native.Nat.{ℕ}
-use lib.Dec.{eqb}
-use lib.IntN.{pos}
-use Rattle.integers.proofs.Whole.{never}
-use Rattle.address.specs.Reversal.{next_of}
-use Rattle.state.specs.declared.settings.Settings.{Settings}
-use Rattle.effects.specs.Pointer.{moved_of, raised_of}
-use Rattle.fields.specs.Carried.{purpose_of}
-use borrow.Author.Rules.{rules}
+use Rattle.std.proofs.Common.{eq-eqb, ne_eqb}
+use Rattle.effects.specs.Pointer.{raised_of}
 use Rattle.fields.proofs.operand.raised.Goals as goal
+use Rattle.fields.proofs.operand.raised.Goals.{in_default-via-in-Store+else-r-reversed, in_default-via-in_default}
 
-reversed : (s : Settings) (stores : Bool) (r a : ℕ) → (stores && eqb r s.reversed.register) ≡ true → next_of s.reversed.words a ≡ raised_of s (purpose_of stores) r a
+pub returns-in-Store : goal.returns-in-Store
 unfolding raised_of
-reversed s true r a h = rw h
-reversed s false r a h = never h
+returns-in-Store c = rw (c.in-Store.is, eq-eqb _ _ c.if-r-reversed.true) c.next.ensures
 
-plain : (s : Settings) (stores : Bool) (r a : ℕ) → (stores && eqb r s.reversed.register) ≡ false → moved_of s.x r a (pos 2) ≡ raised_of s (purpose_of stores) r a
+pub returns-in_default : goal.returns-in_default
 unfolding raised_of
-plain s true r a h = rw h
-plain s false r a h = refl
-
-pub returns-then-stores-r : goal.returns-then-stores-r
-returns-then-stores-r c =
-    let a = c.args in
-    c.next.ensures ∙ reversed a.settings a.stores a.r a.a.0 c.if-stores-r.true
-
-pub returns : goal.returns
-returns c =
-    let a = c.args in
-    c.moved.ensures ∙ plain a.settings a.stores a.r a.a.0 c.if-stores-r.false
+returns-in_default c = elim c.in_default.branch [
+  | in_default-via-in-Store+else-r-reversed w ↦ rw (w.in-Store.is, ne_eqb _ _ w.if-r-reversed.false) c.moved.ensures
+  | in_default-via-in_default w ↦ rw w.in_default.is c.moved.ensures
+]

@@ -3,7 +3,6 @@ use mathlib.Core.Path.{◌∙◌}
 use borrow.Author.Tests.{eq-eqb, ne_eqb}
 use mir.Facts.{to_z-of_z}
 use Rattle.effects.specs.Pointer.{moved_of}
-use borrow.Author.Rules.{rules}
 use Rattle.fields.proofs.pointer.moved.Goals as goal
 
 pub returns-then-r-circle : goal.returns-then-r-circle

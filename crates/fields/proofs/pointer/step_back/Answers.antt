@@ -1,6 +1,5 @@
 -- `pointer::step_back` meets its contract: W13 moves where the write-back is to memory. Assumes nothing.
 use Rattle.fields.proofs.Pointers.{back_moves, back_stays}
-use borrow.Author.Rules.{rules}
 use Rattle.fields.proofs.pointer.step_back.Goals as goal
 
 pub returns-then-back-gt1 : goal.returns-then-back-gt1

@@ -4,7 +4,6 @@ use native.Mathlib.Omega.{arith}
 use mir.Facts.{to_z-of_z}
 use Rattle.effects.specs.Pointer.{step_of}
 use Rattle.effects.proofs.Sums.{less_three_fits, step_fits, byte_plain}
-use borrow.Author.Rules.{rules}
 use Rattle.fields.proofs.pointer.step_of.Goals as goal
 use Rattle.fields.proofs.pointer.step_of.Goals.{Start}
 

@@ -1,107 +1,66 @@
--- `leg::repeat_on` meets its contract. The invariant: for every such program the run goes on from what is held, at the same operation. Assumes nothing.
-use mathlib.Core.List.{List}
-use mathlib.Core.Path.{◌≡◌, refl, sym, ◌∙◌, subst}
-use Prim.Native.Nat.{ℕ, ◌-◌, ◌+◌, ◌*◌, ◌<◌}
+-- `leg::repeat_on` meets its contract. Assumes nothing.
+use mathlib.Core.Path.{◌≡◌, refl, ◌∙◌}
+use Prim.Native.Nat.{◌+◌}
 use native.Mathlib.Omega.{arith}
-use borrow.Author.Tests.{not-true, not-false, ltb-false, eqb-false}
+use borrow.Author.Tests.{ltb-false, eqb-false}
 use lib.Dec.{ltb, eqb}
+use Rattle.std.specs.Prelude.{Ok, Err}
 use Rattle.integers.proofs.Whole.{neither}
-use Rattle.operations.specs.declared.operation.Operation.{Operation}
-use Rattle.sequencer.specs.Settled.{limits_for}
-use Rattle.sequencer.specs.Standing.{Follows}
-use Rattle.stepping.specs.Turned.{Held}
-use Rattle.legs.specs.Leg.{Window, Stood}
-use Rattle.legs.proofs.Legs.{Way, way_begins, goes_onward, goes_over, goes_last, goes_next, encoded, follows, accumulators}
+use Rattle.address.specs.Trap.{trap_number, trap_code}
+use Rattle.legs.specs.Leg.{Finds}
+use Rattle.legs.proofs.Legs.{way_begins, goes_onward, goes_over, goes_last, goes_next, follows}
 use Rattle.legs.proofs.leg.repeat_on.Goals as goal
+use Rattle.legs.proofs.leg.repeat_on.Goals.{After-step_pair}
 
-pub overflow_sub-at : goal.overflow_sub-at
-overflow_sub-at c = c.requires.first_le_pc
+-- the operation at pc is the pair still
+here : (c : After-step_pair) → Finds c.args.window c.loop-pair.f.pc c.args.coded.code.now c.args.coded.at
+here c = rw c.loop-pair.invariant.3 c.requires.found
 
-pub overflow_mul-at : goal.overflow_mul-at
-overflow_mul-at c =
+pub loop-pair-init : goal.loop-pair-init
+loop-pair-init c =
     let pre = c.requires in
-    omega (arith, pre.pc_bound, pre.known.window.inside, pre.known.window.most)
+    ((λ p shows stood. way_begins p _ _ _ _ _ (omega (arith, pre.steps_lt_budget)) stood), pre.steps_lt_budget, pre.lt_repeat, refl)
 
-pub loop-settings-init : goal.loop-settings-init
-loop-settings-init c =
-    let pre = c.requires in
-    ((λ p window stood. way_begins p _ _ _ _ _ (omega (arith, pre.steps_lt_budget)) stood), pre.limits_value, pre.steps_lt_budget, pre.lt_repeat, refl)
+pub returns-in-Err : goal.returns-in-Err
+returns-in-Err c =
+    let inv = c.loop-pair.invariant in
+    let found = here (goal.at.returns-in-Err c).After-step_pair in
+    λ p shows stood.
+    let way = inv.0 p shows stood in
+    let turns = c.in-Err.ensures.turns p c.loop-pair.registers.loops (follows way shows found.inside _ _ found) in
+    goes_over way shows found.inside (λ e. omega (arith, inv.1, e)) _ (Err c.in-Err.trap) turns c.in-Err.trap refl refl
 
-pub step_pair-r-requires : goal.step_pair-r-requires
-step_pair-r-requires c =
-    let pre = c.requires in
-    let a = c.args in
-    let inv = c.loop-settings.invariant in
-    let low = rw (sym inv.4) at pre.first_le_pc in
-    let high = rw (sym inv.4) at pre.pc_bound in
-    let known = pre.known in
-    let way = inv.0 known.program known.window known.stood in record { encoded = rw inv.4 at (encoded way known.window low high); at_value = pre.first_value; xwords_in_bounds = way.part; limits_value = inv.1; accumulators = accumulators way known.window low high; twos = way.twos; lt_repeat = inv.3 }
-
-pub returns-then-not-r : goal.returns-then-not-r
-returns-then-not-r c =
-    let pre = c.requires in
-    let a = c.args in
-    let inv = c.loop-settings.invariant in
-    let low = rw (sym inv.4) at pre.first_le_pc in
-    let high = rw (sym inv.4) at pre.pc_bound in
-    let turn = c.step_pair-r in
-    λ p window stood.
-    let way = inv.0 p window stood in
-    let turns = turn.ensures.turns p a.starts.now a.passes.now a.lasts.now (subst (λ (n : ℕ). Follows p a.code.now (16 * (n - a.first)) c.loop-settings.f a.starts.now a.lasts.now) inv.4 (follows way window low high)) in
-    rw c.ended.ensures (goes_over way window low high (λ e. omega (arith, inv.2, e)) _ turn.result turns (not-true _ c.if-not-r.true))
-
-pub overflow_add-total : goal.overflow_add-total
-overflow_add-total c =
-    omega (arith, c.loop-settings.invariant.2, c.ranges.budget.fits)
-
-pub returns-then-number-ne0 : goal.returns-then-number-ne0
-returns-then-number-ne0 c =
-    let pre = c.requires in
-    let a = c.args in
-    let inv = c.loop-settings.invariant in
-    let low = rw (sym inv.4) at pre.first_le_pc in
-    let high = rw (sym inv.4) at pre.pc_bound in
-    let turn = c.step_pair-r in
-    λ p window stood.
-    let way = inv.0 p window stood in
-    let turns = turn.ensures.turns p a.starts.now a.passes.now a.lasts.now (subst (λ (n : ℕ). Follows p a.code.now (16 * (n - a.first)) c.loop-settings.f a.starts.now a.lasts.now) inv.4 (follows way window low high)) in
-    rw c.ended-then-number-ne0.ensures (goes_last way window low high (λ e. omega (arith, inv.2, e)) _ turn.result turns (not-false _ c.if-not-r.false) c.if-number-ne0.true)
+pub returns-in-Some : goal.returns-in-Some
+returns-in-Some c =
+    let inv = c.loop-pair.invariant in
+    let found = here (goal.at.returns-in-Some c).After-step_pair in
+    let number : trap_code c.in-Ok.pair.trap ≡ trap_number c.in-Some.trap = rw c.in-Some.is in
+    λ p shows stood.
+    let way = inv.0 p shows stood in
+    let turns = c.in-Ok.ensures.turns p c.loop-pair.registers.loops (follows way shows found.inside _ _ found) in
+    goes_last way shows found.inside (λ e. omega (arith, inv.1, e)) _ (Ok c.in-Ok.pair) turns c.in-Some.trap number refl
 
 pub returns-then-f-total : goal.returns-then-f-total
 returns-then-f-total c =
-    let pre = c.requires in
-    let a = c.args in
-    let inv = c.loop-settings.invariant in
-    let low = rw (sym inv.4) at pre.first_le_pc in
-    let high = rw (sym inv.4) at pre.pc_bound in
-    let turn = c.step_pair-r in
-    λ p window stood.
-    let way = inv.0 p window stood in
-    let turns = turn.ensures.turns p a.starts.now a.passes.now a.lasts.now (subst (λ (n : ℕ). Follows p a.code.now (16 * (n - a.first)) c.loop-settings.f a.starts.now a.lasts.now) inv.4 (follows way window low high)) in
-    let next = goes_next way window low high (λ e. omega (arith, inv.2, e)) _ turn.result turns (not-false _ c.if-not-r.false) c.if-number-ne0.false in
-    rw c.ended-then-f-total.ensures (goes_onward next _ _ (omega (arith, way.forward)))
+    let inv = c.loop-pair.invariant in
+    let found = here (goal.at.returns-then-f-total c).After-step_pair in
+    let none : trap_code c.in-Ok.pair.trap ≡ 0 = rw c.in_default.is in
+    λ p shows stood.
+    let way = inv.0 p shows stood in
+    let turns = c.in-Ok.ensures.turns p c.loop-pair.registers.loops (follows way shows found.inside _ _ found) in
+    goes_onward (goes_next way shows found.inside (λ e. omega (arith, inv.1, e)) _ (Ok c.in-Ok.pair) turns refl none) c.args.window (omega (arith, way.forward))
 
-pub loop-settings-smaller : goal.loop-settings-smaller
-loop-settings-smaller c = omega (arith, c.loop-settings.invariant.2)
-
-pub loop-settings-preserved : goal.loop-settings-preserved
-loop-settings-preserved c =
-    let pre = c.requires in
-    let a = c.args in
-    let inv = c.loop-settings.invariant in
-    let low = rw (sym inv.4) at pre.first_le_pc in
-    let high = rw (sym inv.4) at pre.pc_bound in
-    let turn = c.step_pair-r in
-    let known = pre.known in
-    let known-way = inv.0 known.program known.window known.stood in
-    let known-turns = turn.ensures.turns known.program a.starts.now a.passes.now a.lasts.now (subst (λ (n : ℕ). Follows known.program a.code.now (16 * (n - a.first)) c.loop-settings.f a.starts.now a.lasts.now) inv.4 (follows known-way known.window low high)) in
-    let rest = neither (ltb turn.result.flow.repeat 2) (eqb (c.loop-settings.total + 1) a.budget) c.if-f-total.false in (
-      (λ p window stood.
-          let way = inv.0 p window stood in
-          let turns = turn.ensures.turns p a.starts.now a.passes.now a.lasts.now (subst (λ (n : ℕ). Follows p a.code.now (16 * (n - a.first)) c.loop-settings.f a.starts.now a.lasts.now) inv.4 (follows way window low high)) in
-          goes_next way window low high (λ e. omega (arith, inv.2, e)) _ turn.result turns (not-false _ c.if-not-r.false) c.if-number-ne0.false),
-      rw (known-turns.mode turn.ensures.ends_value) inv.1,
-      omega (arith, inv.2, eqb-false (c.loop-settings.total + 1) a.budget rest.1),
-      omega (arith, ltb-false turn.result.flow.repeat 2 rest.0),
-      turn.ensures.pc_value ∙ inv.4,
+pub loop-pair-preserved : goal.loop-pair-preserved
+loop-pair-preserved c =
+    let inv = c.loop-pair.invariant in
+    let found = here (goal.at.loop-pair-preserved c).After-step_pair in
+    let none : trap_code c.in-Ok.pair.trap ≡ 0 = rw c.in_default.is in
+    let rest = neither (ltb c.in-Ok.pair.flow.repeat 2) (eqb (c.loop-pair.total + 1) c.args.budget) c.if-f-total.false in (
+      (λ p shows stood.
+          let way = inv.0 p shows stood in
+          let turns = c.in-Ok.ensures.turns p c.loop-pair.registers.loops (follows way shows found.inside _ _ found) in
+          goes_next way shows found.inside (λ e. omega (arith, inv.1, e)) _ (Ok c.in-Ok.pair) turns refl none),
+      omega (arith, inv.1, eqb-false (c.loop-pair.total + 1) c.args.budget rest.1),
+      omega (arith, ltb-false c.in-Ok.pair.flow.repeat 2 rest.0),
+      c.in-Ok.ensures.pc_value ∙ inv.3,
     )

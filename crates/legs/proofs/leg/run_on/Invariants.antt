@@ -1,21 +1,16 @@
 -- `leg::run_on` meets its contract. The invariant: for every such program the run goes on from what is held. Assumes nothing.
 use mathlib.Core.List.{List}
-use mathlib.Core.Path.{sym, ◌∙◌}
 use Prim.Native.Nat.{◌-◌}
-use native.Mathlib.Omega.{arith}
-use borrow.Author.Tests.{not-true, not-false}
 use Rattle.operations.specs.declared.operation.Operation.{Operation}
-use Rattle.stepping.specs.Turned.{Held}
-use Rattle.legs.specs.Leg.{Window, Stood}
-use Rattle.legs.proofs.Legs.{Way, way_begins, way_stood, goes_along, way_along}
+use Rattle.stepping.specs.Turned.{held}
+use Rattle.legs.specs.Leg.{Shows, Stood}
+use Rattle.legs.proofs.Legs.{Way}
 use Rattle.legs.proofs.leg.run_on.Given as goal
 
-abbrev pub invariant-loop-settings : goal.invariant-loop-settings
-invariant-loop-settings l =
-    let h₀ : Held = record { w = l.initial.w; acc = l.initial.acc; oflags = l.initial.oflags; sflags = l.initial.sflags; starts = l.initial.starts; passes = l.initial.passes; lasts = l.initial.lasts; memory = l.initial.memory } in
-    let h : Held = record { w = l.w; acc = l.acc; oflags = l.oflags; sflags = l.sflags; starts = l.starts; passes = l.passes; lasts = l.lasts; memory = l.memory } in
-    (p : List Operation) → Window p l.code l.first l.count → Stood p l.settings h₀ l.initial.f → Way p l.settings l.budget h₀ l.initial.f l.steps h l.f l.made
+abbrev pub invariant-loop-leg : goal.invariant-loop-leg
+invariant-loop-leg l =
+    (p : List Operation) → Shows p l.window → Stood p l.settings (held l.initial.registers l.initial.memory) l.initial.f
+    → Way p l.settings l.budget (held l.initial.registers l.initial.memory) l.initial.f l.steps (held l.registers l.memory) l.f l.made
 
-abbrev pub decreases-loop-settings : goal.decreases-loop-settings
-decreases-loop-settings l =
-    l.budget - l.made
+abbrev pub decreases-loop-leg : goal.decreases-loop-leg
+decreases-loop-leg l = l.budget - l.made

@@ -1,23 +1,16 @@
 -- `leg::step_on` meets its contract. The invariant: for every such program the run goes on from what is held. Assumes nothing.
 use mathlib.Core.List.{List}
-use mathlib.Core.Path.{◌≡◌, ◌∙◌}
 use Prim.Native.Nat.{◌-◌}
-use native.Mathlib.Omega.{arith}
-use borrow.Author.Tests.{not-true, not-false}
 use Rattle.operations.specs.declared.operation.Operation.{Operation}
-use Rattle.sequencer.specs.Settled.{limits_for}
-use Rattle.stepping.specs.Turned.{Held}
-use Rattle.legs.specs.Leg.{Window, Stood}
-use Rattle.legs.proofs.Legs.{outside, inside, Way, way_begins, goes_elsewhere, goes_onward, goes_out, goes_over, goes_last, goes_next, encoded, follows, standing, accumulators}
+use Rattle.stepping.specs.Turned.{held}
+use Rattle.legs.specs.Leg.{Shows, Stood}
+use Rattle.legs.proofs.Legs.{Way}
 use Rattle.legs.proofs.leg.step_on.Given as goal
 
-abbrev pub invariant-loop-settings : goal.invariant-loop-settings
-invariant-loop-settings l =
-    let h₀ : Held = record { w = l.initial.w; acc = l.initial.acc; oflags = l.initial.oflags; sflags = l.initial.sflags; starts = l.initial.starts; passes = l.initial.passes; lasts = l.initial.lasts; memory = l.initial.memory } in
-    let h : Held = record { w = l.w; acc = l.acc; oflags = l.oflags; sflags = l.sflags; starts = l.starts; passes = l.passes; lasts = l.lasts; memory = l.memory } in
-    ((p : List Operation) → Window p l.code l.first l.count → Stood p l.settings h₀ l.initial.f → Way p l.settings l.budget h₀ l.initial.f l.steps h l.f l.made)
-    × (l.limits ≡ limits_for l.settings.traps l.f.mode)
+abbrev pub invariant-loop-coded : goal.invariant-loop-coded
+invariant-loop-coded l =
+    (p : List Operation) → Shows p l.window → Stood p l.settings (held l.initial.registers l.initial.memory) l.initial.f
+    → Way p l.settings l.budget (held l.initial.registers l.initial.memory) l.initial.f l.steps (held l.registers l.memory) l.f l.made
 
-abbrev pub decreases-loop-settings : goal.decreases-loop-settings
-decreases-loop-settings l =
-    l.budget - l.made
+abbrev pub decreases-loop-coded : goal.decreases-loop-coded
+decreases-loop-coded l = l.budget - l.made

@@ -1,44 +1,44 @@
--- `file::check_blocks` meets its contract. The invariant: no block so far is refused.
-use borrow.Author.Rules.{rules}
-use native.Mathlib.Omega.{arith}
-use Prim.Native.Nat.{◌≤◌, ◌-◌, ◌/◌}
-use mathlib.Core.Path.{◌≡◌, refl, sym, ◌∙◌}
-use mathlib.Core.Bool.{true}
-use lib.ListN.{length}
-use borrow.Author.Tests.{not-true, not-false}
-use Rattle.program.specs.Answer.{first_of}
-use Rattle.program.specs.File.{is_file_size, refusal_at, blocks_refusal}
-use Rattle.program.proofs.Slices.{part_of}
-use Rattle.program.proofs.Answers.{first_more, first_stop, first_end}
+-- `file::check_blocks` meets its contract: std's blocks are the file's.
+use mathlib.Core.Path.{◌≡◌, sym}
+use Rattle.std.proofs.Common.{arith, ◌<◌, ◌/◌, length, []}
+use Rattle.std.proofs.lemmas.Result.{err_from_is_err_and}
+use Rattle.program.specs.Answer.{answer_number}
+use Rattle.program.specs.File.{refusal_at, blocks_refusal}
+use Rattle.program.proofs.Answers.{first_more, first_stop}
+use Rattle.program.proofs.Slices.{chunk_at}
 use Rattle.loader.proofs.file.check_blocks.Goals as goal
+use Rattle.loader.proofs.file.check_blocks.Goals.{After-check_block}
 
 pub returns-then-not-is_file_size : goal.returns-then-not-is_file_size
 unfolding blocks_refusal
 returns-then-not-is_file_size c = rw (← c.is_file_size.ensures, c.if-not-is_file_size.true)
 
-pub loop-k-init : goal.loop-k-init
-loop-k-init c = (refl, sym c.is_file_size.ensures ∙ c.if-not-is_file_size.false, omega arith, refl)
-
-pub returns-in_default : goal.returns-in_default
-unfolding blocks_refusal
-returns-in_default c =
+-- the block that is checked
+told : (c : After-check_block) → answer_number c.check_block.result ≡ refusal_at c.args.file.now c.loop-k.k
+told c =
     let file = c.args.file.now in
-    rw c.loop-k.invariant.1
-    (first_stop (refusal_at file) c.loop-k.k (length file / 512) c.check_block-block.result (omega arith) c.loop-k.invariant.3 c.in_default.is
-    (rw part_of at c.check_block-block.ensures))
+    let inside : c.loop-k.k < length file / 512 = omega arith in
+    let h = rw (c.as_chunks.ensures.front_len, c.as_chunks.ensures.front) at c.check_block.ensures in
+    rw (chunk_at 512 (length file / 512) file c.loop-k.k [] inside) at h
+
+pub returns-in_err-check_block : goal.returns-in_err-check_block
+unfolding blocks_refusal
+returns-in_err-check_block c =
+    let file = c.args.file.now in
+    let inside : c.loop-k.k < length file / 512 = omega arith in
+    let h = told (goal.at.returns-in_err-check_block c).After-check_block in
+    let p = err_from_is_err_and c.from_residual.result c.from_residual.ensures.1 in
+    rw (p.1, p.2, ← c.is_file_size.ensures, c.if-not-is_file_size.false)
+    (first_stop (refusal_at file) c.loop-k.k (length file / 512) c.check_block.result inside c.loop-k.invariant c.in_err-check_block.was h)
 
 pub loop-k-preserved : goal.loop-k-preserved
 loop-k-preserved c =
-    let file = c.args.file.now in (
-      refl,
-      c.loop-k.invariant.1,
-      omega arith,
-      first_more (refusal_at file) c.loop-k.k c.check_block-block.result c.loop-k.invariant.3 c.in-Accepted.is
-          (rw part_of at c.check_block-block.ensures),
-    )
+    let h = told (goal.at.loop-k-preserved c).After-check_block in
+    first_more (refusal_at c.args.file.now) c.loop-k.k c.check_block.result c.loop-k.invariant c.in_ok-check_block.was h
 
 pub returns : goal.returns
 unfolding blocks_refusal
 returns c =
     let file = c.args.file.now in
-    rw (c.loop-k.invariant.1, first_end (refusal_at file) c.loop-k.k (length file / 512) (omega arith) c.loop-k.invariant.3)
+    let done : c.loop-k.k ≡ length file / 512 = omega arith in
+    rw (← c.is_file_size.ensures, c.if-not-is_file_size.false, ← done) (sym c.loop-k.invariant)

@@ -1,61 +1,45 @@
--- `file::copy_bodies` meets its contract. The invariant: the operations of the blocks so far, and then the bytes that `to` had.
-use native.Mathlib.Omega.{arith}
-use Prim.Native.Nat.{◌≤◌, ◌+◌, ◌-◌, ◌*◌, ◌/◌}
-use mathlib.Core.Path.{◌≡◌, refl, ◌∙◌}
+-- `file::copy_bodies` meets its contract: std's blocks are the file's, and each body goes behind those before it.
+use mathlib.Core.Path.{◌≡◌}
+use mathlib.Core.List.{List}
 use native.Mathlib.Numerals.{add-one}
-use lib.ListN.{length, length-append, length-take, length-drop}
-use borrow.Rule.Slice.PartMut.{same_len_mid}
-use Rattle.operations.specs.Bytes.{byte}
-use Rattle.program.specs.Bytes.{over}
+use Rattle.std.proofs.Common.{arith, ℕ, ◌<◌, ◌/◌, [], length, get_or, length-append, length-take, length-drop}
 use Rattle.program.specs.Block.{body_of}
 use Rattle.program.specs.File.{block_at, bodies_first, bodies_of}
-use Rattle.program.proofs.Slices.{part_of, over_more}
-use Rattle.program.proofs.Blocks.{body_length}
-use Rattle.program.proofs.Files.{block_at_length, file_most, bodies_room}
+use Rattle.program.proofs.Slices.{chunk_at, over_more}
+use Rattle.program.proofs.Files.{file_most, bodies_room}
 use Rattle.loader.proofs.file.copy_bodies.Goals as goal
-use Rattle.loader.proofs.file.copy_bodies.Goals.{In-loop-k}
+use Rattle.loader.proofs.file.copy_bodies.Goals.{In-loop-block}
 
-room : (c : In-loop-k) → c.loop-k.n + 8 * byte (block_at c.args.file.now c.loop-k.k) 2 ≤ length c.loop-k.to
-room c =
-    bodies_room c.args.file.now c.loop-k.k c.loop-k.n (length c.loop-k.to) c.requires.file_value c.loop-k-test.true c.loop-k.invariant.2 (omega arith)
+inside : (c : In-loop-block) → c.loop-block.block-index < length c.args.file.now / 512
+inside c = rw (← c.as_chunks.ensures.front_len) c.loop-block-test.true
 
-pub loop-k-init : goal.loop-k-init
-loop-k-init c = (refl, omega arith, refl, refl, refl)
-
-pub slice_bounds-copy_body-count-in-loop-k : goal.slice_bounds-copy_body-count-in-loop-k
-slice_bounds-copy_body-count-in-loop-k c = omega (arith, room (goal.at.slice_bounds-copy_body-count-in-loop-k c).In-loop-k)
+same : (c : In-loop-block) → get_or c.as_chunks.result.0.now c.loop-block.block-index [] ≡ block_at c.args.file.now c.loop-block.block-index
+same c = rw c.as_chunks.ensures.front (chunk_at 512 (length c.args.file.now / 512) c.args.file.now c.loop-block.block-index [] (inside c))
 
 pub copy_body-n-requires : goal.copy_body-n-requires
 copy_body-n-requires c =
+    let here = (goal.at.copy_body-n-requires c).In-loop-block in
     let file = c.args.file.now in
-    let l = c.loop-k-test.true in
-    rw part_of (record { block_len = block_at_length file c.loop-k.k l; block_bound = file_most file c.requires.file_value c.loop-k.k l; block_in_bounds = simp (length-take, length-drop) (omega (arith, room (goal.at.copy_body-n-requires c).In-loop-k)) })
+    let k : ℕ = c.loop-block.block-index in
+    let room = bodies_room file k c.loop-block.n (length c.loop-block.to) c.requires.file_value (inside here) c.loop-block.invariant.placed (omega arith) in
+    rw (same here) (record { block_bound = file_most file c.requires.file_value k (inside here); block_in_bounds = simp (length-take, length-drop) (omega arith) })
 
-pub overflow_add-n : goal.overflow_add-n
-overflow_add-n c =
+pub loop-block-preserved : goal.loop-block-preserved
+loop-block-preserved c =
+    let here = (goal.at.loop-block-preserved c).In-loop-block in
     let file = c.args.file.now in
-    let k = c.loop-k.k in
-    let size : length (body_of (block_at file k)) ≡ 8 * byte (block_at file k) 2 =
-    body_length (block_at file k) (block_at_length file k c.loop-k-test.true) (file_most file c.requires.file_value k c.loop-k-test.true) in
-    omega (arith, room (goal.at.overflow_add-n c).In-loop-k, rw part_of at c.copy_body-n.ensures.value)
-
-pub loop-k-preserved : goal.loop-k-preserved
-loop-k-preserved c =
-    let file = c.args.file.now in
-    let k = c.loop-k.k in
-    let n = c.loop-k.n in
-    let to = c.loop-k.to in
-    let last = c.copy_body-n.new.to in (
-      refl,
-      omega arith,
-      rw (add-one, length-append (bodies_first file k) (body_of (block_at file k)), ← c.loop-k.invariant.2, c.copy_body-n.ensures.value, part_of),
-      rw add-one (over_more (bodies_first file k) (body_of (block_at file k)) c.args.to.now to last n c.loop-k.invariant.2 c.loop-k.invariant.3 (rw part_of at c.copy_body-n.ensures.to_after)),
-      same_len_mid n (length to - n) to last c.copy_body-n.auto.to ∙ c.loop-k.invariant.4,
-    )
+    let k : ℕ = c.loop-block.block-index in
+    let before : List ℕ = bodies_first file k in
+    let body : List ℕ = body_of (block_at file k) in
+    let size = rw (same here) at c.copy_body-n.ensures.value in
+    let put = rw (same here) at c.copy_body-n.ensures.to_after in
+    rw add-one (record {
+      placed = rw (length-append before body, ← c.loop-block.invariant.placed, size);
+      copied = over_more before body c.args.to.now c.loop-block.to c.copy_body-n.new.to c.loop-block.n c.loop-block.invariant.placed c.loop-block.invariant.copied put;
+    })
 
 pub returns : goal.returns
 unfolding bodies_of
 returns c =
-    let file = c.args.file.now in
-    let done : c.loop-k.k ≡ length file / 512 = omega arith in
-    rw done at c.loop-k.invariant.3
+    let done : c.loop-block.block-index ≡ length c.args.file.now / 512 = omega (arith, c.as_chunks.ensures.front_len) in
+    rw (← done) c.loop-block.invariant.copied

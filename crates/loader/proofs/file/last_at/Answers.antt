@@ -2,7 +2,6 @@
 use mathlib.Core.Path.{ap, ◌∙◌}
 use native.Mathlib.Nat.{le_trans}
 use native.Mathlib.Omega.{arith}
-use borrow.Author.Rules.{rules}
 use Rattle.program.specs.File.{operation_count, program_of}
 use Rattle.program.specs.Placement.{last_of}
 use Rattle.program.specs.declared.layout.Layout.TheVariants.{Blocks}

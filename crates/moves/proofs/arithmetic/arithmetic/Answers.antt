@@ -1,97 +1,94 @@
 -- `arithmetic::arithmetic` meets its contract, kind by kind. Assumes nothing.
-use Prim.Native.Nat.{◌-◌, ◌<◌}
-use mathlib.Core.Bool.{true}
-use mathlib.Core.Path.{◌≡◌, sym, ◌∙◌}
-use native.Mathlib.Omega.{arith}
-use lib.IntN.{pos}
-use lib.ListN.{get_or}
-use mir.Syntax.{w64}
-use mir.Val.{to_z, of_z}
-use Rattle.accumulator.specs.Limit.{is_accumulator}
+use Rattle.std.proofs.Common.{◌≡◌, ◌-◌, ◌<◌, get_or, pos, neg_ℤ, ◌-ℤ◌, sym, ◌∙◌, arith, to_z-of_z, w64, to_z, of_z}
+use Rattle.integers.proofs.Whole.{whole, less, neg}
+use Rattle.accumulator.proofs.Sizes.{accumulator_within, difference_fits}
+use Rattle.effects.proofs.Sums.{sum_fits}
 use Rattle.form.specs.Words.{field, kind_in}
 use Rattle.form.proofs.Ranges.{shift_register}
-use Rattle.fields.proofs.Accumulators.{within}
-use Rattle.moves.proofs.Arithmetics.{sums, subtracts, negates, shifts, last_kind}
-use borrow.Author.Rules.{rules}
+use Rattle.fields.proofs.Accumulators.{within, kept}
+use Rattle.moves.proofs.Arithmetics.{sums, subtracts, negates, shifts}
 use Rattle.moves.proofs.arithmetic.arithmetic.Goals as goal
-use Rattle.moves.proofs.arithmetic.arithmetic.Goals.{After-difference-arg-1, After-target-t, After-v-1, Else-which-eq10}
+use Rattle.moves.proofs.arithmetic.arithmetic.Goals.{After-target-t}
 
 -- the target's number and the accumulators that it names
-small : (c : After-target-t) → let a = c.args in field a.code.now a.at 1 < 2
+small : (c : After-target-t) → field c.args.coded.code.now c.args.coded.at 1 < 2
 small c = rw c.target-t.ensures.value at c.target-t.ensures.upper_bound
 
-value : (c : After-v-1) → let v = get_or c.args.acc.now c.target-t.result (pos 0) in
-    to_z w64 (of_z w64 v) ≡ v
-value c = search rules
+value : (c : After-target-t) → let v = get_or c.args.acc.now c.target-t.result (pos 0) in to_z w64 (of_z w64 v) ≡ v
+value c = kept c.args.acc.now c.target-t.result c.target-t.ensures.upper_bound c.requires.accumulators
 
-value-within : (c : After-v-1) → let v = get_or c.args.acc.now c.target-t.result (pos 0) in
-    is_accumulator (to_z w64 (of_z w64 v)) ≡ true
-value-within c =
-    let t = c.target-t in
-    rw (value c) (within c.args.acc.now t.result t.ensures.upper_bound c.requires.accumulators)
+other : (c : After-target-t) → let v = get_or c.args.acc.now (1 - c.target-t.result) (pos 0) in to_z w64 (of_z w64 v) ≡ v
+other c = kept c.args.acc.now (1 - c.target-t.result) (omega arith) c.requires.accumulators
 
-other : (c : After-difference-arg-1) → let v = get_or c.args.acc.now (1 - c.target-t.result) (pos 0) in
-    to_z w64 (of_z w64 v) ≡ v
-other c = search rules
+first : (c : After-target-t) → let v = get_or c.args.acc.now 0 (pos 0) in to_z w64 (of_z w64 v) ≡ v
+first c = kept c.args.acc.now 0 (omega arith) c.requires.accumulators
 
--- what is left is kind 11
-is-shift : (c : Else-which-eq10) → let a = c.args in kind_in a.code.now a.at ≡ 11
-is-shift c =
-    let pre = c.requires in
-    let k = c.kind-which.ensures in
-    last_kind _ pre.bound pre.at_bound (λ z. c.if-which-eq8.false (k ∙ z)) (λ z. c.if-which-eq9.false (k ∙ z)) (λ z. c.if-which-eq10.false (k ∙ z))
+second : (c : After-target-t) → let v = get_or c.args.acc.now 1 (pos 0) in to_z w64 (of_z w64 v) ≡ v
+second c = kept c.args.acc.now 1 (omega arith) c.requires.accumulators
 
-pub returns-then-which-eq8 : goal.returns-then-which-eq8
-returns-then-which-eq8 c =
-    let a = c.args in
-    let acc = a.acc.now in
-    let r : to_z w64 (of_z w64 c.sum.result) ≡ c.sum.result = search rules in
-    let x : to_z w64 (of_z w64 (get_or acc 0 (pos 0))) ≡ get_or acc 0 (pos 0) = search rules in
-    let y : to_z w64 (of_z w64 (get_or acc 1 (pos 0))) ≡ get_or acc 1 (pos 0) = search rules in
-    λ settings mode memory.
-    sums settings mode a.code.now a.at acc a.w.now memory (small (goal.at.returns-then-which-eq8 c).After-target-t) c.result.result
-    (sym c.kind-which.ensures ∙ c.if-which-eq8.true)
-    (rw (r, c.sum.ensures, x, y) at c.result.ensures)
+pub overflow_add-result : goal.overflow_add-result
+overflow_add-result c =
+    let at-target = (goal.at.overflow_add-result c).After-target-t in
+    rw (first at-target, second at-target) (sum_fits _ _ c.requires.accumulators.a c.requires.accumulators.b)
 
-pub difference-requires : goal.difference-requires
-difference-requires c =
+pub overflow_sub-result-in-9 : goal.overflow_sub-result-in-9
+overflow_sub-result-in-9 c =
+    let at-target = (goal.at.overflow_sub-result-in-9 c).After-target-t in
+    let acc = c.args.acc.now in
     let t = c.target-t in
     let l : 1 - t.result < 2 = omega arith in
-    record { x_value = value-within (goal.at.difference-requires c).After-v-1; y_value = rw (other (goal.at.difference-requires c).After-difference-arg-1) (within c.args.acc.now (1 - t.result) l c.requires.accumulators) }
+    rw (value at-target, other at-target)
+    (difference_fits (get_or acc t.result (pos 0)) (get_or acc (1 - t.result) (pos 0)) (accumulator_within _ (within acc t.result t.ensures.upper_bound c.requires.accumulators))
+    (accumulator_within _ (within acc (1 - t.result) l c.requires.accumulators)))
 
-pub returns-then-which-eq9 : goal.returns-then-which-eq9
-returns-then-which-eq9 c =
+pub overflow_sub-result-in-10 : goal.overflow_sub-result-in-10
+overflow_sub-result-in-10 c =
+    let at-target = (goal.at.overflow_sub-result-in-10 c).After-target-t in
+    let t = c.target-t in
+    rw (value at-target)
+    (difference_fits (pos 0) (get_or c.args.acc.now t.result (pos 0)) (omega arith) (accumulator_within _ (within c.args.acc.now t.result t.ensures.upper_bound c.requires.accumulators)))
+
+pub returns-in-8 : goal.returns-in-8
+returns-in-8 c =
+    let at-target = (goal.at.returns-in-8 c).After-target-t in
     let a = c.args in
-    let t = c.target-t.ensures.value in
-    let r : to_z w64 (of_z w64 c.difference.result) ≡ c.difference.result = search rules in
-    λ settings mode memory.
-    subtracts settings mode a.code.now a.at a.acc.now a.w.now memory (small (goal.at.returns-then-which-eq9 c).After-target-t) c.result-then-which-eq9.result
-    (sym c.kind-which.ensures ∙ c.if-which-eq9.true)
-    (rw (r, c.difference.ensures, value (goal.at.returns-then-which-eq9 c).After-v-1, other (goal.at.returns-then-which-eq9 c).After-difference-arg-1, t) at c.result-then-which-eq9.ensures)
+    rw (to_z-of_z (overflow_add-result c), first at-target, second at-target)
+    (λ settings mode memory.
+    sums settings mode a.coded.code.now a.coded.at a.acc.now a.w.now memory (small at-target) (sym c.kind.ensures ∙ c.in-8.is))
 
-pub returns-then-which-eq10 : goal.returns-then-which-eq10
-returns-then-which-eq10 c =
+pub returns-in-9 : goal.returns-in-9
+returns-in-9 c =
+    let at-target = (goal.at.returns-in-9 c).After-target-t in
     let a = c.args in
-    let t = c.target-t.ensures.value in
-    let r : to_z w64 (of_z w64 c.opposite.result) ≡ c.opposite.result = search rules in
-    λ settings mode memory.
-    negates settings mode a.code.now a.at a.acc.now a.w.now memory (small (goal.at.returns-then-which-eq10 c).After-target-t) c.result-then-which-eq10.result
-    (sym c.kind-which.ensures ∙ c.if-which-eq10.true)
-    (rw (r, c.opposite.ensures, value (goal.at.returns-then-which-eq10 c).After-v-1, t) at c.result-then-which-eq10.ensures)
+    rw (to_z-of_z (overflow_sub-result-in-9 c), value at-target, other at-target, c.target-t.ensures.value)
+    (λ settings mode memory.
+    subtracts settings mode a.coded.code.now a.coded.at a.acc.now a.w.now memory (small at-target) (sym c.kind.ensures ∙ c.in-9.is))
 
+pub returns-in-10 : goal.returns-in-10
+returns-in-10 c =
+    let at-target = (goal.at.returns-in-10 c).After-target-t in
+    let a = c.args in
+    let v = get_or a.acc.now (field a.coded.code.now a.coded.at 1) (pos 0) in
+    let opposite : pos 0 -ℤ v ≡ neg_ℤ v = omega (whole, less (pos 0) v, neg v) in
+    rw (to_z-of_z (overflow_sub-result-in-10 c), value at-target, c.target-t.ensures.value, opposite)
+    (λ settings mode memory.
+    negates settings mode a.coded.code.now a.coded.at a.acc.now a.w.now memory (small at-target) (sym c.kind.ensures ∙ c.in-10.is))
+
+-- what is left is kind 11
 pub register-requires : goal.register-requires
-register-requires c = rw c.word.ensures (shift_register c.requires.encoded (is-shift (goal.at.register-requires c).Else-which-eq10))
-
-pub returns : goal.returns
-returns c =
-    let a = c.args in
-    let t = c.target-t.ensures.value in
-    λ settings mode memory.
-    shifts settings mode a.code.now a.at a.acc.now a.w.now memory (small (goal.at.returns c).After-target-t) c.shift_by.result (is-shift (goal.at.returns c).Else-which-eq10)
-    (rw (value (goal.at.returns c).After-v-1, t, c.register.ensures, c.word.ensures) at c.shift_by.ensures)
-
-pub opposite-requires : goal.opposite-requires
-opposite-requires c = value-within (goal.at.opposite-requires c).After-v-1
+register-requires c =
+    rw c.word.ensures (shift_register c.args.coded.encoded (omega (arith, c.kind.ensures, c.requires.bound, c.requires.at_bound)))
 
 pub shift_by-requires : goal.shift_by-requires
-shift_by-requires c = value-within (goal.at.shift_by-requires c).After-v-1
+shift_by-requires c =
+    let t = c.target-t in
+    rw (value (goal.at.shift_by-requires c).After-target-t) (within c.args.acc.now t.result t.ensures.upper_bound c.requires.accumulators)
+
+pub returns-in_default : goal.returns-in_default
+returns-in_default c =
+    let a = c.args in
+    let at-target = (goal.at.returns-in_default c).After-target-t in
+    let kind : kind_in a.coded.code.now a.coded.at ≡ 11 = omega (arith, c.kind.ensures, c.requires.bound, c.requires.at_bound) in
+    λ settings mode memory.
+    shifts settings mode a.coded.code.now a.coded.at a.acc.now a.w.now memory (small at-target) kind c.shift_by.result
+    (rw (value at-target, c.target-t.ensures.value, c.register.ensures, c.word.ensures) at c.shift_by.ensures)

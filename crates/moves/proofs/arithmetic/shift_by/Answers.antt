@@ -1,13 +1,8 @@
--- `arithmetic::shift_by` meets its contract: trap 3, or the shift. Assumes nothing.
-use mathlib.Core.Path.{◌≡◌, sym, ◌∙◌}
-use borrow.Author.Tests.{not-true, not-false}
-use mir.Facts.{to_z-of_z}
-use mir.Syntax.{w64}
-use mir.Val.{to_z, of_z}
+-- `arithmetic::shift_by` meets its contract: a trap, or the shift. Assumes nothing.
+use Rattle.std.proofs.Common.{◌≡◌, sym, ◌∙◌, to_z-of_z, w64, to_z, of_z, rules}
 use Rattle.integers.specs.Bits.{signed_of}
 use Rattle.integers.proofs.Fitting.{gave}
 use Rattle.accumulator.specs.Shift.{shift_allowed}
-use borrow.Author.Rules.{rules}
 use Rattle.moves.proofs.arithmetic.shift_by.Goals as goal
 use Rattle.moves.proofs.arithmetic.shift_by.Goals.{After-is_allowed, After-signed-n}
 
@@ -18,7 +13,7 @@ allowed : (c : After-is_allowed) → shift_allowed (signed_of 16 c.args.x) ≡ c
 allowed c = sym (rw (by c.before) at c.is_allowed.ensures)
 
 pub returns-then-not-is_allowed : goal.returns-then-not-is_allowed
-returns-then-not-is_allowed c = rw (allowed (goal.at.returns-then-not-is_allowed c).After-is_allowed ∙ c.if-not-is_allowed.true) c.trapped.ensures
+returns-then-not-is_allowed c = rw (allowed (goal.at.returns-then-not-is_allowed c).After-is_allowed ∙ c.if-not-is_allowed.true)
 
 pub shift-requires : goal.shift-requires
 shift-requires c =
@@ -27,5 +22,4 @@ shift-requires c =
 pub returns : goal.returns
 returns c =
     let r : to_z w64 (of_z w64 c.shift.result) ≡ c.shift.result = search rules in
-    rw (allowed (goal.at.returns c).After-is_allowed ∙ c.if-not-is_allowed.false)
-    (rw (r, c.shift.ensures, by (goal.at.returns c).After-signed-n, to_z-of_z c.ranges.v) at c.result.ensures)
+    rw (allowed (goal.at.returns c).After-is_allowed ∙ c.if-not-is_allowed.false, r, c.shift.ensures, by (goal.at.returns c).After-signed-n, to_z-of_z c.ranges.v)

@@ -17,8 +17,8 @@ use Rattle.moves.proofs.transfer.word_of.Goals as goal
 pub register-requires : goal.register-requires
 register-requires c =
     let a = c.args in
-    let k : kind_in a.code.now a.at ≡ 18 = sym c.kind-which.ensures ∙ c.if-which-eq18.true in
-    rw c.word.ensures (move_register c.requires.encoded (omega arith) (omega arith))
+    let k : kind_in a.coded.code.now a.coded.at ≡ 18 = sym c.kind-which.ensures ∙ c.if-which-eq18.true in
+    rw c.word.ensures (move_register c.args.coded.encoded (omega arith) (omega arith))
 
 pub returns-then-which-eq18 : goal.returns-then-which-eq18
 unfolding value_word
@@ -28,7 +28,7 @@ returns-then-which-eq18 c =
 
 pub target-t-requires : goal.target-t-requires
 target-t-requires c =
-    record { encoded = c.requires.encoded; at_bound = (store_transfers _ c.requires.at_value (λ z. c.if-which-eq18.false (c.kind-which.ensures ∙ z))).1 }
+    (store_transfers _ c.requires.at_value (λ z. c.if-which-eq18.false (c.kind-which.ensures ∙ z))).1
 
 pub stored_word-requires : goal.stored_word-requires
 stored_word-requires c =
@@ -36,7 +36,7 @@ stored_word-requires c =
     let t = c.target-t in
     let v : to_z w64 (of_z w64 (get_or acc t.result (pos 0))) ≡ get_or acc t.result (pos 0) = search rules in
     let kinds = store_transfers _ c.requires.at_value (λ z. c.if-which-eq18.false (c.kind-which.ensures ∙ z)) in
-    record { v_value = rw v (within acc t.result t.ensures.upper_bound c.requires.accumulators); b2_bound = rw c.word-2.ensures (transfer_shift c.requires.encoded kinds.0 kinds.1) }
+    record { v_value = rw v (within acc t.result t.ensures.upper_bound c.requires.accumulators); b2_bound = rw c.word-2.ensures (transfer_shift c.args.coded.encoded kinds.0 kinds.1) }
 
 pub returns : goal.returns
 returns c =

@@ -1,5 +1,4 @@
 -- `mac::is_pair` meets its contract: the code is the definition. Assumes nothing.
-use Rattle.std.proofs.Common.{rules}
 use Rattle.products.proofs.mac.is_pair.Goals as goal
 
 pub returns : goal.returns

@@ -1,6 +1,5 @@
 -- `mac::load` meets its contract: a word arrives where there is a read. Assumes nothing.
 use Rattle.products.proofs.Arrivals.{load_some, load_none}
-use Rattle.std.proofs.Common.{rules}
 use Rattle.products.proofs.mac.load.Goals as goal
 
 pub returns-then-from-ne0 : goal.returns-then-from-ne0

@@ -1,19 +1,10 @@
 -- `mac::mac` meets its contract: a pair, or a trap without effect, or the work. Assumes nothing.
-use Rattle.std.proofs.Common.{sym, ◌∙◌, rules}
+use Rattle.std.proofs.lemmas.Result.{err_from_is_err_and}
 use Rattle.products.proofs.Works.{mac_trapped}
 use Rattle.products.proofs.mac.mac.Goals as goal
 
-pub pair-requires : goal.pair-requires
-pair-requires c =
-    record { encoded = c.requires.encoded; at_value = sym c.is_pair.ensures ∙ c.if-is_pair.true; xwords_in_bounds = c.requires.xwords_in_bounds; accumulators = c.requires.accumulators }
-
-pub returns-then-trap-ne0 : goal.returns-then-trap-ne0
-returns-then-trap-ne0 c =
+pub returns-in_err-f : goal.returns-in_err-f
+returns-in_err-f c =
     let a = c.args in
-    rw c.trapped.ensures
-    (mac_trapped a.settings a.mode a.acc.now a.w.now a.memory.now c.fetch-f.result c.requires.encoded c.requires.at_bound c.fetch-f.ensures
-    c.if-trap-ne0.true)
-
-pub carry_out-requires : goal.carry_out-requires
-carry_out-requires c =
-    record { encoded = c.requires.encoded; at_bound = c.requires.at_bound; accumulators = c.requires.accumulators; fetches = c.fetch-f.ensures; trap_value = c.if-trap-ne0.false }
+    let p = err_from_is_err_and c.from_residual-in_err-f.result c.from_residual-in_err-f.ensures.1 in
+    rw (p.1, p.2) (mac_trapped a.settings a.mode a.acc.now a.w.now a.memory.now a.coded.encoded c.requires.at_bound c.in_err-f.field-0.0 c.in_err-f.ensures.trap)

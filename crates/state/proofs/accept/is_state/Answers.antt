@@ -18,9 +18,9 @@ operation_count-requires c = accepted_blocks c.args.file.now c.requires
 counted : (c : After-operation_count) → c.operation_count.result ≡ length (program_of c.args.file.now)
 counted c = c.operation_count.ensures ∙ sym (program_length c.args.file.now c.requires)
 
-pub returns-then-operation_count-pc : goal.returns-then-operation_count-pc
+pub returns-then-operation_count-core : goal.returns-then-operation_count-core
 unfolding is_state
-returns-then-operation_count-pc c = rw (← counted (goal.at.returns-then-operation_count-pc c).After-operation_count, lt-leb _ _ c.if-operation_count-pc.true)
+returns-then-operation_count-core c = rw (← counted (goal.at.returns-then-operation_count-core c).After-operation_count, lt-leb _ _ c.if-operation_count-core.true)
 
 pub returns : goal.returns
 unfolding is_state
@@ -28,5 +28,5 @@ returns c =
     let core = c.args.state.core in
     let a : to_z w64 (of_z w64 core.a) ≡ core.a = search rules in
     let b : to_z w64 (of_z w64 core.b) ≡ core.b = search rules in
-    rw (← counted (goal.at.returns c).After-operation_count, le-leb _ _ c.if-operation_count-pc.false, c.is_accumulator.ensures, a, c.is_accumulator-2.ensures, b)
+    rw (← counted (goal.at.returns c).After-operation_count, le-leb _ _ c.if-operation_count-core.false, c.is_accumulator.ensures, a, c.is_accumulator-2.ensures, b)
     (rw (c.is_good.ensures, c.are_loops.ensures, c.is_repeat_left.ensures))

@@ -7,7 +7,6 @@ use borrow.Author.Tests.{ltb-true, eqb-true, lt-ltb, eqb-false}
 use lib.Dec.{ltb, eqb}
 use Rattle.integers.proofs.Whole.{both}
 use Rattle.stepping.proofs.Controls.{do_blocked, begins_step}
-use borrow.Author.Rules.{rules}
 use Rattle.stepping.proofs.step.step_begin.Goals as goal
 
 -- a DO without trap 4 has room for its loop
@@ -19,34 +18,32 @@ room {which} {kind} {depth} e few t l =
 pub returns-then-which-f : goal.returns-then-which-f
 returns-then-which-f c =
     let a = c.args in
+    let r = a.registers.now in
     let kind = c.kind-which in
     let parts = both (ltb 20 kind.result) (eqb a.f.depth 4) c.if-which-f.true in
     let deep = rw kind.ensures at (ltb-true 20 kind.result parts.0) in
-    λ p settings acc oflags sflags memory twos follows. rw c.uncounted.ensures
-    (record {
+    λ p settings memory follows. record {
       step =
-          do_blocked settings p a.code.now a.at a.f acc oflags sflags a.w.now a.starts.now a.passes.now memory follows.here
+          do_blocked settings p a.coded.code.now a.coded.at a.f r.sums.values r.sums.overflow r.sums.saturation r.w r.loops.starts r.loops.passes memory follows.here
           deep c.requires.at_bound (eqb-true a.f.depth 4 parts.1);
       lasts = follows.lasts;
       mode = λ z. refl;
-      twos = twos;
-    })
+    }
 
 pub begin-flow-requires : goal.begin-flow-requires
 begin-flow-requires c =
-    record { encoded = c.requires.encoded; bound = c.requires.bound; at_bound = c.requires.at_bound; standing = c.requires.standing; depth_bound = room c.kind-which.ensures c.requires.standing.few c.if-which-f.false }
+    record { bound = c.requires.bound; at_bound = c.requires.at_bound; standing = c.requires.standing; depth_bound = room c.kind-which.ensures c.requires.standing.few c.if-which-f.false }
 
 pub returns : goal.returns
 returns c =
     let a = c.args in
+    let r = a.registers.now in
     let begin = c.begin-flow in
     let few = room c.kind-which.ensures c.requires.standing.few c.if-which-f.false in
-    λ p settings acc oflags sflags memory twos follows. rw c.complete.ensures
-    (record {
+    λ p settings memory follows. record {
       step =
-          begins_step settings p a.code.now a.at a.f acc oflags sflags a.w.now a.starts.now a.passes.now memory follows.here
-          c.requires.bound c.requires.at_bound few begin.new.starts begin.new.passes begin.result (begin.ensures.result_after p acc oflags);
+          begins_step settings p a.coded.code.now a.coded.at a.f r.sums.values r.sums.overflow r.sums.saturation r.w r.loops.starts r.loops.passes memory follows.here
+          c.requires.bound c.requires.at_bound few begin.new.self.starts begin.new.self.passes begin.result (begin.ensures.result_after p r.sums.values r.sums.overflow);
       lasts = begin.ensures.lasts p follows;
       mode = λ z. begin.ensures.mode_value;
-      twos = twos;
-    })
+    }

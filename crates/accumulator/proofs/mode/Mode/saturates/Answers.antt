@@ -1,5 +1,4 @@
 -- `Mode::saturates` meets its contract, accumulator by accumulator. Assumes nothing.
-use Rattle.std.proofs.Common.{rules}
 use Rattle.accumulator.specs.Mode.{saturates}
 use Rattle.accumulator.proofs.mode.Mode.saturates.Goals as goal
 

@@ -1,5 +1,4 @@
 -- `ending::Ending::name` meets its contract. Assumes nothing.
-use borrow.Author.Rules.{rules}
 use Rattle.endings.specs.Ending.{name_of}
 use Rattle.endings.proofs.Names.{trap_name, refused_name}
 use Rattle.endings.proofs.ending.Ending.name.Goals as goal
@@ -13,7 +12,7 @@ unfolding name_of
 returns-in-Spent c = rw c.in-Spent.is
 
 pub returns-in-Trap : goal.returns-in-Trap
-returns-in-Trap c = rw (c.in-Trap.is, c.decimal-d.ensures) (trap_name _)
+returns-in-Trap c = rw (c.in-Trap.is, c.decimal.ensures) (trap_name _)
 
 pub returns-in-Refused : goal.returns-in-Refused
-returns-in-Refused c = rw (c.in-Refused.is, c.decimal-d-in-Refused.ensures) (refused_name _)
+returns-in-Refused c = rw (c.in-Refused.is, c.decimal-in-Refused.ensures) (refused_name _)

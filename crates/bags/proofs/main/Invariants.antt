@@ -1,9 +1,0 @@
--- `main` ends: it counts its turns down.
-use native.Mathlib.Omega.{arith}
-use Rattle.bags.proofs.main.Given as goal
-
-abbrev pub invariant-loop-turns : goal.invariant-loop-turns
-invariant-loop-turns l = Unit {0}
-
-abbrev pub decreases-loop-turns : goal.decreases-loop-turns
-decreases-loop-turns l = l.turns

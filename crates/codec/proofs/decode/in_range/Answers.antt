@@ -1,9 +1,0 @@
--- `decode::in_range` meets its contract.
-use borrow.Author.Rules.{rules}
-use Rattle.codec.proofs.decode.in_range.Goals as goal
-
-pub returns-then-is_listed : goal.returns-then-is_listed
-returns-then-is_listed c = rw (← c.operation_of-operation.ensures, ← c.is_listed.ensures, c.if-is_listed.true)
-
-pub returns-else-is_listed : goal.returns-else-is_listed
-returns-else-is_listed c = rw (← c.operation_of-operation.ensures, ← c.is_listed.ensures, c.if-is_listed.false)

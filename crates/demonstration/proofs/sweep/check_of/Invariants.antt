@@ -1,9 +1,0 @@
--- `sweep::check_of` is safe and ends: the count of cases left falls. Assumes nothing.
-use borrow.Author.Rules.{rules}
-use Rattle.demonstration.proofs.sweep.check_of.Given as goal
-
-abbrev pub invariant-loop-left : goal.invariant-loop-left
-invariant-loop-left l = Unit {0}
-
-abbrev pub decreases-loop-left : goal.decreases-loop-left
-decreases-loop-left l = l.left

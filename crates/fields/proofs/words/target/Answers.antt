@@ -1,8 +1,0 @@
--- `words::target` meets its contract: a listed operation's target is 0 or 1. Assumes nothing.
-use Rattle.fields.proofs.Targets.{encoded_target}
-use borrow.Author.Rules.{rules}
-use Rattle.fields.proofs.words.target.Goals as goal
-
-pub returns : goal.returns
-returns c =
-    record { value = c.word.ensures; upper_bound = rw c.word.ensures (encoded_target c.requires.encoded c.requires.at_bound) }
