@@ -37,7 +37,12 @@ pub fn left(mode: Mode, target: Target, r: i64) -> bool
 pub fn low40(r: i64) -> i64
     ensures { result ≡ signed_of 40 (low_bits 40 r) }
 {
-    (r << 24) >> 24
+    let low = r & 0xff_ffff_ffff;
+    if low < 0x80_0000_0000 {
+        low
+    } else {
+        low - 0x100_0000_0000
+    }
 }
 
 // The value kept of the exact result r: r itself, the nearer limit, or the low 40 bits.

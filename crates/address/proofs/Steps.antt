@@ -1,14 +1,18 @@
 -- Sums and steps have 16 bits, the circular step takes the cases of its definition, and its i64 sums fit: by arithmetic. Assumes nothing.
-use Rattle.std.proofs.Common.{◌≡◌, ℕ, ◌^◌, ◌<◌, true, false, leb, ℤ, pos, ◌+ℤ◌, ◌-ℤ◌, sym, refl, ◌∙◌, arith, to_z-of_z, w16, w64, Fits, SFits, to_z, of_z, leb-true}
+use Rattle.std.proofs.Common.{◌≡◌, ℕ, ◌+◌, ◌^◌, ◌<◌, true, false, leb, ℤ, pos, ◌+ℤ◌, ◌-ℤ◌, sym, refl, ◌∙◌, mod-lt, arith, lit<, to_z-of_z, w16, w64, Fits, SFits, to_z, of_z, leb-true}
 use lib.Signed.{lt_z, mag}
 use Rattle.integers.specs.Bits.{low_bits}
 use Rattle.integers.proofs.Whole.{whole, size, sum, less, both, by_test, lt_yes, no_lt}
 use Rattle.integers.proofs.Fitting.{word_plain}
 use Rattle.integers.proofs.Low.{low_size}
 use Rattle.address.specs.declared.step.Buffer.{Buffer}
-use Rattle.address.specs.Step.{stepped_of, is_within, size_of, corrected_of, circular_of}
+use Rattle.address.specs.Step.{address_sum, stepped_of, is_within, size_of, corrected_of, circular_of}
 
 -- ---- addresses of 16 bits
+
+pub sum_below : (a w : ℕ) → address_sum a w < 2 ^ 16
+unfolding address_sum
+sum_below a w = mod-lt (a + w) (lit< tt)
 
 pub stepped_below : (a : ℕ) (step : ℤ) → stepped_of a step < 2 ^ 16
 unfolding stepped_of

@@ -1,5 +1,5 @@
 -- The width of N is at most ten, and N has one exactly where it is a power of two 2 .. 1,024: by induction over the widths. Assumes nothing.
-use Rattle.std.proofs.Common.{◌≡◌, ℕ, zero, suc, ◌+◌, ◌*◌, ◌/◌, ◌%◌, ◌^◌, ◌<◌, ◌≤◌, Bool, true, false, ◌&&◌, eqb, ltb, leb, sym, refl, ap, ◌∙◌, arith, pow_pos, pow_mono, w16, ltb-false, ltb-true, eq-eqb, eqb-true, leb-false, leb-true, le-leb}
+use Rattle.std.proofs.Common.{◌≡◌, ℕ, zero, suc, ◌+◌, ◌*◌, ◌/◌, ◌%◌, ◌^◌, ◌<◌, ◌≤◌, Bool, true, false, ◌&&◌, eqb, ltb, leb, sym, refl, ap, ◌∙◌, arith, pow_pos, pow_mono, w16, ltb-false, ltb-true, eq-eqb, ne_eqb, eqb-true, leb-false, leb-true, le-leb}
 use Rattle.std.proofs.lemmas.Nat.{zero_from_ones}
 use Rattle.std.proofs.lemmas.Nat.Bits.{bit_at-trailing_zeros, bit_at-pow_other}
 use Rattle.std.specs.Int.{bit_at, trailing_zeros, is_power_of_two}
@@ -48,6 +48,10 @@ width_is (suc t) b h l =
 pub power_width : (b : ℕ) → 0 < b → b ≤ 10 → width_of (2 ^ b) ≡ b
 unfolding width_of
 power_width b h l = width_is 10 b h l
+
+pub power_accepted : (b : ℕ) → 0 < b → b ≤ 10 → is_power (2 ^ b) ≡ true
+unfolding is_power
+power_accepted b h l = rw (power_width b h l, ne_eqb b 0 (λ (e : b ≡ 0). omega arith))
 
 -- ---- an N that has a width is that power of two
 

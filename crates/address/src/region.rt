@@ -52,19 +52,14 @@ impl Region {
         self.first.0 <= i.0 && i.0 < self.end.0.min(MEMORY_WORDS)
     }
 
-    // The word of an access at a, or its trap: an odd address before one outside the region.
+    // The word of an access at a, or its trap.
     pub fn access(self, a: ByteAddress) -> Result<WordIndex, Trap>
         ensures trap { failed_by result ≡ access_trap self a.0 }
         ensures word { IfOk result (λ i. (i.0 ≡ word_of a.0) × (i.0 < self.end.0)) }
     {
-        let i = a.aligned_word();
-        if self.has(i) {
-            return Ok(i);
-        }
-        if a.0 % 2 == 1 {
-            Err(Trap::OddAddress)
-        } else {
-            Err(Trap::OutsideRegion)
+        match trap(self, a) {
+            Some(trap) => Err(trap),
+            None => Ok(a.aligned_word()),
         }
     }
 }
@@ -81,9 +76,15 @@ pub fn inside(region: Region, a: ByteAddress) -> bool
     region.first.0 <= i.0 && i.0 < region.end.0
 }
 
-// The trap of an access at a, if it has one.
+// The trap of an access at a, if it has one: an odd address before one outside the region.
 pub fn trap(region: Region, a: ByteAddress) -> Option<Trap>
     ensures { trap_code result ≡ access_trap region a.0 }
 {
-    region.access(a).err()
+    if region.has(a.aligned_word()) {
+        None
+    } else if a.0 % 2 == 1 {
+        Some(Trap::OddAddress)
+    } else {
+        Some(Trap::OutsideRegion)
+    }
 }

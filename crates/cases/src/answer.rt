@@ -45,7 +45,7 @@ fn joined(first: &[u8], second: &[u8], out: &mut [u8]) -> Result<usize, Refusal>
 }
 
 // A run.
-fn ran(header: Header, file: &[u8], memory: &mut [u16]) -> Outcome {
+fn ran(header: &Header, file: &[u8], memory: &mut [u16]) -> Outcome {
     run(
         file,
         header.settings(),
@@ -70,7 +70,7 @@ fn ran_decoded(
 }
 
 // A run over decoded operations, and its line.
-fn answer_decoded(header: Header, file: &[u8], memory: &mut [u16], slice: &mut [u16]) -> Line {
+fn answer_decoded(header: &Header, file: &[u8], memory: &mut [u16], slice: &mut [u16]) -> Line {
     count_up(slice);
     let settings = header.settings();
     let outcome = ran_decoded(
@@ -93,7 +93,7 @@ fn combined(boards: [Board; 8], count: usize, mode: u16) -> Result<Accumulator, 
 
 // Boards combined, and their line. The budget is their number, and the file has 9 bytes of each; where it has another length the line is `short`, and
 // the stream goes on.
-fn answer_combine(header: Header, file: &[u8]) -> Line {
+fn answer_combine(header: &Header, file: &[u8]) -> Line {
     let count = header.budget() as usize;
     if file.len() != 9 * count {
         return line::notice_line(Notice::Short);
@@ -103,7 +103,7 @@ fn answer_combine(header: Header, file: &[u8]) -> Line {
 
 // The line of a case.
 pub fn answer(
-    header: Header,
+    header: &Header,
     first: &[u8],
     second: &[u8],
     memory: &mut [u16],

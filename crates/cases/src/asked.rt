@@ -30,3 +30,10 @@ impl From<u8> for Asked {
         }
     }
 }
+
+impl Asked {
+    // Whether it is a run, which finds the words of the case in memory.
+    pub fn is_run(self) -> bool {
+        matches!(self, Asked::Run | Asked::LongRun | Asked::Decoded)
+    }
+}

@@ -28,7 +28,7 @@ impl Buffers {
 }
 
 // The bytes of lent output: R of a load, a write or a join, none of the others.
-pub fn output_room(header: Header) -> usize {
+pub fn output_room(header: &Header) -> usize {
     match Asked::from(header.what()) {
         Asked::Load | Asked::Write => header.budget() as usize,
         Asked::Join => header.output_room(),
@@ -37,7 +37,7 @@ pub fn output_room(header: Header) -> usize {
 }
 
 // The words of the lent slice: L of a run over decoded operations, none of the others.
-pub fn slice_words(header: Header) -> usize {
+pub fn slice_words(header: &Header) -> usize {
     match Asked::from(header.what()) {
         Asked::Decoded => header.lent(),
         _ => 0,

@@ -7,7 +7,7 @@ mod asked;
 mod buffers;
 
 use crate::answer::answer;
-use crate::asked::LONG;
+use crate::asked::{Asked, LONG};
 use crate::buffers::Buffers;
 use input::read_whole;
 use std::io;
@@ -20,20 +20,18 @@ use stream::stop::Stop;
 
 // A header of either form: the long one has more bytes.
 fn read_either(stdin: &mut Stdin) -> Result<Header, Stop> {
-    let header = read_header(stdin)?;
-    if header.what() < LONG {
-        return Ok(header);
+    let mut header = read_header(stdin)?;
+    if header.what() >= LONG {
+        read_whole(stdin, &mut header.bytes[112..])?;
     }
-    let mut bytes = header.bytes;
-    read_whole(stdin, &mut bytes[112..])?;
-    Ok(Header::new(bytes))
+    Ok(header)
 }
 
 // One case, with as much of each buffer as it asks for: F bytes, G bytes and the bytes of M words are read.
 fn case(mut stdin: Stdin, stdout: Stdout, buffers: &mut Buffers) -> Result<(), Stop> {
     let header = read_either(&mut stdin)?;
     let words = header.memory_words();
-    let (room, lent) = (buffers::output_room(header), buffers::slice_words(header));
+    let (room, lent) = (buffers::output_room(&header), buffers::slice_words(&header));
     let first = part(&mut buffers.first, header.file_size())?;
     let second = part(&mut buffers.second, header.second_size())?;
     let memory = part(&mut buffers.memory, words)?;
@@ -43,8 +41,10 @@ fn case(mut stdin: Stdin, stdout: Stdout, buffers: &mut Buffers) -> Result<(), S
     read_whole(&mut stdin, first)?;
     read_whole(&mut stdin, second)?;
     read_whole(&mut stdin, bytes)?;
-    fill(memory, bytes);
-    let line = answer(header, first, second, memory, out, slice);
+    if Asked::from(header.what()).is_run() {
+        fill(memory, bytes);
+    }
+    let line = answer(&header, first, second, memory, out, slice);
     stdout.write_all(line.as_bytes())?;
     Ok(())
 }

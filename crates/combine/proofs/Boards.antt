@@ -1,6 +1,6 @@
 -- The boards' sums: each has 40 bits, and where SA is clear at the end none was limited. Assumes nothing.
-use Prim.Native.Nat.{ℕ, zero, suc, ◌<◌}
-use mathlib.Core.Bool.{Bool, true, false}
+use Prim.Native.Nat.{ℕ, zero, suc, ◌<◌, ◌≤◌}
+use mathlib.Core.Bool.{Bool, true, false, cond, ◌||◌}
 use mathlib.Core.List.{List}
 use mathlib.Core.Path.{◌≡◌, sym, ap, ◌∙◌, subst}
 use native.Mathlib.Omega.{arith}
@@ -8,13 +8,15 @@ use borrow.Author.Tests.{ltb-true, ltb-false}
 use lib.Dec.{ltb}
 use lib.IntN.{ℤ, pos, ◌+ℤ◌, +ℤ_idr, +ℤ_assoc}
 use Rattle.integers.proofs.Whole.{by_test, both, neither}
+use Rattle.accumulator.specs.Mode.{is_good_mode}
 use Rattle.accumulator.specs.Limit.{has_left, write_of, is_accumulator}
 use Rattle.accumulator.specs.declared.limit.Accumulator.{Accumulator}
 use Rattle.accumulator.specs.declared.mode.Mode.{Mode}
 use Rattle.accumulator.specs.declared.mode.Target.TheVariants.{A}
 use Rattle.accumulator.proofs.Sizes.{kept_within, within_accumulator}
 use Rattle.accumulator.proofs.Writing.{kept_inside}
-use Rattle.combine.specs.Boards.{board_at, are_accumulators, added, added_up}
+use Rattle.program.specs.Answer.{◌then◌}
+use Rattle.combine.specs.Boards.{board_at, are_accumulators, added, added_up, combine_refusal}
 use Rattle.combine.specs.declared.board.Board.{Board}
 
 -- ---- 40 bits
@@ -35,6 +37,16 @@ accumulator_at_lem boards (suc n) i h l =
 pub added_accumulator : (before : Accumulator) (m : Mode) (a : ℤ) → is_accumulator (added before m a).value ≡ true
 unfolding added write_of
 added_accumulator before m a = within_accumulator _ (kept_within m A (before.value +ℤ a))
+
+-- an accepted call has at most eight boards, each with an A of 40 bits
+pub accepted_boards : (boards : List Board) (count mode : ℕ) → combine_refusal boards count mode ≡ 0 → (count ≤ 8) × (are_accumulators boards count ≡ true)
+unfolding combine_refusal
+accepted_boards boards count mode =
+    by_test (λ (n : ℕ). (n then cond (are_accumulators boards count) 0 14 then cond (is_good_mode mode) 0 7) ≡ 0 → (count ≤ 8) × (are_accumulators boards count ≡ true))
+    (ltb count 2 || ltb 8 count) {x = 13} {y = 0} (λ e z. absurd (omega (arith, z)))
+    (λ e.
+    by_test (λ (n : ℕ). (n then cond (is_good_mode mode) 0 7) ≡ 0 → (count ≤ 8) × (are_accumulators boards count ≡ true)) (are_accumulators boards count)
+    {x = 0} {y = 14} (λ f z. (ltb-false 8 count (neither (ltb count 2) (ltb 8 count) e).1, f)) (λ f z. absurd (omega (arith, z))))
 
 -- ---- the sum
 

@@ -1,6 +1,7 @@
 // Reads beside an operation: the word, or the trap.
-ghost use Rattle.std.specs.Prelude.{cond, List, ◌≡◌, ℕ, ◌≤◌, eqb, length};
+ghost use Rattle.std.specs.Prelude.{cond, List, ◌≡◌, ℕ, ◌≤◌, ◌<◌, eqb, length, get_or};
 ghost use Rattle.address.specs.Trap.{failed_by};
+ghost use Rattle.address.specs.Word.{word_of};
 ghost use Rattle.operations.specs.Decode.{write_back_of};
 ghost use Rattle.state.specs.State.{register};
 ghost use Rattle.effects.specs.Access.{access_at, region_of, sum_address, prefetch_access, back_access};
@@ -15,6 +16,14 @@ use address::trap::Trap;
 use address::word::ByteAddress;
 use effects::access::Space;
 use state::settings::Settings;
+
+// The word at address a.
+pub fn word_at(a: ByteAddress, memory: &[u16]) -> u16
+    requires { word_of a.0 < length memory.now }
+    ensures { result ≡ get_or memory.now (word_of a.0) 0 }
+{
+    memory[a.word().0]
+}
 
 // A read at address a in a region.
 pub fn read_at(region: Region, a: ByteAddress, memory: &[u16]) -> Result<u16, Trap>

@@ -1,9 +1,9 @@
 -- The bytes of a joined program, operation by operation. Assumes nothing.
-use Prim.Native.Nat.{ℕ, zero, suc, ◌+◌, ◌-◌, ◌*◌, ◌≤◌, ◌<◌, min}
+use Prim.Native.Nat.{ℕ, zero, suc, ◌+◌, ◌-◌, ◌*◌, ◌/◌, ◌%◌, ◌≤◌, ◌<◌, min}
 use mathlib.Core.List.{List, [], ◌∷◌, ◌++◌}
 use mathlib.Core.Path.{◌≡◌, refl, sym, ap, ◌∙◌}
 use native.Mathlib.Omega.{arith}
-use lib.ListN.{length, take, drop, length-take, length-drop, length-append}
+use lib.ListN.{length, set, take, drop, length-take, length-drop, length-append}
 use lib.Seq.{take_at, drop-append-add, take-add, drop-drop}
 use Rattle.operations.specs.Encode.{encode_of}
 use Rattle.operations.specs.declared.operation.Operation.{Operation}
@@ -13,12 +13,13 @@ use Rattle.program.specs.Layout.{bytes_of}
 use Rattle.program.specs.Placement.{role_of, role_at, last_of}
 use Rattle.program.specs.Write.{part_at}
 use Rattle.program.specs.declared.layout.Layout.TheVariants.{Consecutive}
+use Rattle.program.specs.declared.placement.Role.TheVariants.{Loops}
 use Rattle.program.proofs.Accepted.{program_length, program_placed}
-use Rattle.program.proofs.Placed.{role_is, last_below}
+use Rattle.program.proofs.Placed.{LoopPlaced, role_is, loop_placed, last_below}
 use Rattle.program.proofs.Slices.{take_min}
 use Rattle.machine.specs.Step.{operation_at}
 use Rattle.join.specs.Join.{moved_operation, joined, encoded, joined_bytes, Joinable}
-use Rattle.join.proofs.Moved.{joined_length, first_operation, second_operation}
+use Rattle.join.proofs.Moved.{by_moved, joined_length, first_operation, second_operation}
 
 -- ---- operations as bytes
 
@@ -32,6 +33,23 @@ encoded_at (o ∷ p) zero l = take_at (encode_of o) (encoded p) 8 (encode_length
 encoded_at (o ∷ p) (suc i) l =
     let past : 8 * suc i ≡ length (encode_of o) + 8 * i = omega (arith, encode_length o) in
     rw (past, drop-append-add (encode_of o) (encoded p) (8 * i)) (encoded_at p i (omega arith))
+
+-- ---- an operation moved
+
+-- one that is no DO stays
+moved_still : (n : ℕ) (o : Operation) → last_of (role_of o) ≡ 0 → (role_of o ≡ Loops 0 → ⊥) → moved_operation n o ≡ o
+moved_still n =
+    by_moved n (λ o o'. last_of (role_of o) ≡ 0 → (role_of o ≡ Loops 0 → ⊥) → o' ≡ o) (λ o e z h f. refl) (λ count last h f. absurd (f (ap Loops h)))
+    (λ r last h f. absurd (f (ap Loops h)))
+
+-- a DO's last stands in bytes 4 and 5
+moved_bytes : (n : ℕ) (o : Operation) → 0 < last_of (role_of o)
+    → set (set (encode_of o) 4 ((n + last_of (role_of o)) % 256)) 5 ((n + last_of (role_of o)) / 256) ≡ encode_of (moved_operation n o)
+unfolding encode_of
+moved_bytes n =
+    by_moved n
+    (λ o o'. 0 < last_of (role_of o) → set (set (encode_of o) 4 ((n + last_of (role_of o)) % 256)) 5 ((n + last_of (role_of o)) / 256) ≡ encode_of o')
+    (λ o e z l. absurd (omega arith)) (λ count last l. refl) (λ r last l. refl)
 
 -- ---- of two files
 
@@ -72,6 +90,27 @@ module _ (first second : List ℕ) (n : ℕ) (h : Joinable first second n) where
       ∙ ap encode_of (sym (second_operation p q (i - n)))
       ∙ ap (λ (k : ℕ). encode_of (operation_at (joined p q) k)) at
       ∙ sym (encoded_at (joined p q) i (omega (arith, total)))
+
+  -- one that is no DO
+  pub still_bytes : (i last : ℕ) → n ≤ i → i < n + operation_count second → last ≡ last_of (role_at q (i - n)) → last ≡ 0
+      → encode_of (operation_at q (i - n)) ≡ bytes_of Consecutive (joined_bytes first second) i
+  still_bytes i last lo hi is e =
+      let j = i - n in
+      ap encode_of
+      (sym (moved_still n (operation_at q j) (ap last_of (sym (role_is q j)) ∙ sym is ∙ e)
+      (λ z.
+      let placed : LoopPlaced q j 0 = loop_placed q (program_placed second h.second_accepted) j 0 (omega (arith, long')) (role_is q j ∙ z) in
+      let room : j + 2 ≤ 0 = placed.room in
+      omega arith)))
+      ∙ second_bytes i lo hi
+
+  -- a DO
+  pub loop_bytes : (i last : ℕ) → n ≤ i → i < n + operation_count second → last ≡ last_of (role_at q (i - n)) → 0 < last
+      → set (set (encode_of (operation_at q (i - n))) 4 ((n + last) % 256)) 5 ((n + last) / 256) ≡ bytes_of Consecutive (joined_bytes first second) i
+  loop_bytes i last lo hi is some =
+      let o = operation_at q (i - n) in
+      let same : last ≡ last_of (role_of o) = is ∙ ap last_of (role_is q (i - n)) in
+      rw same (moved_bytes n o (rw same at some)) ∙ second_bytes i lo hi
 
   -- a last operation is below the count
   pub last_most : (j last : ℕ) → j < operation_count second → last ≡ last_of (role_at q j) → last < operation_count second

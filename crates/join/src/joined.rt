@@ -1,38 +1,16 @@
 // The blocks of a joined file, made one by one: the operations of both files are read in place.
 ghost use Rattle.std.specs.Prelude.{◌≡◌, ◌+◌, ◌*◌, ◌<◌, ◌≤◌, length, take, drop};
-ghost use Rattle.operations.specs.declared.operation.Operation.{Operation};
 ghost use Rattle.program.specs.Bytes.{over};
 ghost use Rattle.program.specs.File.{operation_count};
 ghost use Rattle.program.specs.Layout.{bytes_of};
-ghost use Rattle.program.specs.Placement.{role_of, last_of};
 ghost use Rattle.program.specs.Write.{blocks_for};
 ghost use Rattle.program.specs.declared.layout.Layout.TheVariants.{Consecutive};
-ghost use Rattle.join.specs.Join.{moved_operation, joined_bytes, joined_file, Joinable};
+ghost use Rattle.join.specs.Join.{joined_bytes, joined_file, Joinable};
 
 use codec::encode::encode;
 use loader::block::write_block;
 use loader::bytes::copy;
-use loader::file::{operation_at, operation_count};
-use operations::operation::Operation;
-
-// An operation behind n others: the last operation of a DO moves on by n.
-#[tactic(auto, unfolding(crate::specs::Join::moved_operation))]
-fn moved(n: u16, operation: Operation) -> Operation
-    requires { n + last_of (role_of operation) < 65536 }
-    ensures { result ≡ moved_operation n operation }
-{
-    match operation {
-        Operation::Do { count, last } => Operation::Do {
-            count,
-            last: n + last,
-        },
-        Operation::DoRegister { register, last } => Operation::DoRegister {
-            register,
-            last: n + last,
-        },
-        _ => operation,
-    }
-}
+use loader::file::{last_at, operation_at, operation_count};
 
 // Two accepted files whose operations fit one file together; the first has `count` of them.
 #[derive(Clone, Copy)]
@@ -44,7 +22,7 @@ pub struct Pair<'a> {
 }
 
 impl Pair<'_> {
-    // The bytes of operation i of the joined program.
+    // The bytes of operation i of the joined program: the last operation of a DO of the second file moves on by the first's count, in bytes 4 and 5.
     fn bytes_of(&self, i: usize) -> [u8; 8]
         requires { i < self.now.count + operation_count self.now.second.now }
         ensures { result ≡ bytes_of Consecutive (joined_bytes self.now.first.now self.now.second.now) i }
@@ -52,8 +30,16 @@ impl Pair<'_> {
         if i < self.count {
             return encode(operation_at(self.first, i));
         }
-        let operation = operation_at(self.second, i - self.count);
-        encode(moved(self.count as u16, operation))
+        let j = i - self.count;
+        let mut bytes = encode(operation_at(self.second, j));
+        let last = last_at(self.second, j);
+        if 0 < last {
+            let moved = self.count + last;
+            let [low, high] = (moved as u16).to_le_bytes();
+            bytes[4] = low;
+            bytes[5] = high;
+        }
+        bytes
     }
 
     // The bytes of `count` operations of the joined program from operation `from` on, at the start of `part`; the rest of `part` stays.

@@ -194,7 +194,7 @@ module _ {p : List Operation} {settings : Settings} {budget : ℕ} {h₀ : Held}
     undone e = let k : f.pc < length p = below in omega arith
 
     -- its place among the words
-    placed_at : f.pc - v.first < v.count
+    pub placed_at : f.pc - v.first < v.count
     placed_at = omega (arith, inside.low, inside.high)
 
     back_again : v.first + (f.pc - v.first) ≡ f.pc

@@ -1,6 +1,7 @@
 // The line of a case.
 ghost use Rattle.std.specs.Prelude.{◌≡◌, ◌+◌, ◌≤◌, ◌++◌, length};
-ghost use Rattle.report.specs.Line.{run_line, long_run_line, decoded_run_line, tally_line, step_text, step_line, verb_text, unless_refused, filled_line, combined_fields, combined_line, notice_text, notice_line, service_text, bag_fields};
+ghost use Rattle.report.specs.Line.{run_line, long_run_line, decoded_run_line, tally_line, step_text, step_line, verb_text, unless_refused, unless_numbered, filled_line, combined_fields, combined_line, combined_line_of, notice_text, notice_line};
+ghost use Rattle.report.specs.Line.{service_text, service_text_of, bag_fields};
 
 use crate::run_fields::{push_end, push_ending, push_tally, run_fields, unended_long_run};
 use crate::state_fields::push_state;
@@ -8,7 +9,7 @@ use accumulator::limit::Accumulator;
 use endings::ending::Ending;
 use engine::outcome::Outcome;
 use machine::single::SingleStep;
-use program::answer::{Refusal, bytes};
+use program::answer::{Refusal, bytes, number};
 use report::notice::Notice;
 use report::verb::Verb;
 use state::state::State;
@@ -100,18 +101,29 @@ fn verb_text(verb: Verb) -> &'static [u8]
     }
 }
 
+// A text, or the refusal in its place, where its number is not 0.
+fn numbered_text(refusal: u8, text: &[u8]) -> Line
+    requires { length text.now ≤ 9 }
+    ensures content { result ≡ unless_numbered refusal text.now }
+    ensures upper_bound { length result ≤ 9 }
+{
+    let mut line = Line::new();
+    if refusal == 0 {
+        line.push_text(text);
+    } else {
+        push_ending(&mut line, Ending::Refused(refusal));
+    }
+    line
+}
+
 // A text, or the refusal in its place.
+#[tactic(auto, using(crate::proofs::Refusals::numbered_refused))]
 fn answer_text<T>(answer: &Result<T, Refusal>, text: &[u8]) -> Line
     requires { length text.now ≤ 9 }
     ensures content { result ≡ unless_refused answer.now text.now }
     ensures upper_bound { length result ≤ 9 }
 {
-    let mut line = Line::new();
-    match answer {
-        Ok(_) => line.push_text(text),
-        Err(refusal) => push_ending(&mut line, Ending::Refused(refusal.number())),
-    }
-    line
+    numbered_text(number(answer), text)
 }
 
 // The line of a load, a write or a join: the verb or the refusal, the bytes written, the check of the lent slice.
@@ -139,18 +151,29 @@ fn push_combined(line: &mut Line, sum: Accumulator)
     line.push_field(sum.saturation)
 }
 
-// The line of combined boards: the sum or the refusal.
-#[tactic(auto, unfolding(report::specs::Line::combined_line))]
-pub fn combined_line(answer: Result<Accumulator, Refusal>) -> Line
-    ensures { result ≡ combined_line answer }
+// The line of combined boards: the sum or the refusal of this number.
+#[tactic(auto, unfolding(report::specs::Line::combined_line_of))]
+pub fn combined_line_of(answer: Result<Accumulator, u8>) -> Line
+    ensures { result ≡ combined_line_of answer }
 {
     let mut line = Line::new();
     match answer {
         Ok(sum) => push_combined(&mut line, sum),
-        Err(refusal) => push_ending(&mut line, Ending::Refused(refusal.number())),
+        Err(refusal) => push_ending(&mut line, Ending::Refused(refusal)),
     }
     push_end(&mut line);
     line
+}
+
+// The line of combined boards: the sum or the refusal.
+#[tactic(auto, unfolding(report::specs::Line::combined_line, report::specs::Line::combined_line_of))]
+pub fn combined_line(answer: Result<Accumulator, Refusal>) -> Line
+    ensures { result ≡ combined_line answer }
+{
+    match answer {
+        Ok(sum) => combined_line_of(Ok(sum)),
+        Err(refusal) => combined_line_of(Err(refusal.number())),
+    }
 }
 
 // The line of a case that has no answer.
@@ -168,8 +191,26 @@ pub fn notice_line(notice: Notice) -> Line
     line
 }
 
-// The line of a service up to its bags: whether it was served, the state, the checks of memory, ending codes and steps.
-#[tactic(auto, unfolding(report::specs::Line::service_text))]
+// The line of a service up to its bags: whether it was served or, by its number, refused, the state, the checks of memory, ending codes and steps.
+#[tactic(auto, unfolding(report::specs::Line::service_text_of))]
+pub fn service_text_of(
+    refusal: u8,
+    state: State,
+    memory: &[u16],
+    endings: &[u8],
+    steps: &[u32],
+) -> Line
+    ensures { result ≡ service_text_of refusal state memory.now endings.now steps.now }
+{
+    let mut line = numbered_text(refusal, b"served");
+    push_state(&mut line, state, memory);
+    line.push_field(check(0, endings));
+    line.push_field(check(0, steps));
+    line
+}
+
+// The same by the service's answer.
+#[tactic(auto, using(crate::proofs::Refusals::numbered_refused), unfolding(report::specs::Line::service_text, report::specs::Line::service_text_of))]
 pub fn service_text<T>(
     answer: &Result<T, Refusal>,
     state: State,
@@ -179,11 +220,7 @@ pub fn service_text<T>(
 ) -> Line
     ensures { result ≡ service_text answer.now state memory.now endings.now steps.now }
 {
-    let mut line = answer_text(answer, b"served");
-    push_state(&mut line, state, memory);
-    line.push_field(check(0, endings));
-    line.push_field(check(0, steps));
-    line
+    service_text_of(number(answer), state, memory, endings, steps)
 }
 
 // The fields of a bag: its ending's code and its steps.

@@ -68,7 +68,14 @@ fn put_header(k: u16, n: u8, out: &mut [u8])
     ensures { out.new ≡ header_of k n ++ drop 8 out.old }
 {
     let [low, high] = k.to_le_bytes();
-    copy(&[low, high, n, 0, 0, 0, 0, 0], out);
+    out[0] = low;
+    out[1] = high;
+    out[2] = n;
+    out[3] = 0;
+    out[4] = 0;
+    out[5] = 0;
+    out[6] = 0;
+    out[7] = 0;
 }
 
 // Block k without its sum.

@@ -22,7 +22,12 @@ impl Operations<'_> {
         requires e_inside { e < self.now.count }
         ensures { result ≡ is_nested (operations_in self.now.layout self.now.bytes.now self.now.count) d e }
     {
-        (0..e - d).all(|j| ends_below(e, self.role(d + 1 + j)))
+        for j in 0..e - d {
+            if !ends_below(e, self.role(d + 1 + j)) {
+                return false;
+            }
+        }
+        true
     }
 
     // Whether a REPEAT may be operation i.

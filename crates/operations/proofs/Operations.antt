@@ -35,7 +35,7 @@ use Rattle.operations.proofs.Same.{same_true, same_refl}
 -- ---- what decoding says
 
 -- an operation that is taken is the one that was tested
-if_listed : (t : Bool) (p o : Operation) → listed_if t p ≡ Some o → (t ≡ true) × (p ≡ o)
+pub if_listed : (t : Bool) (p o : Operation) → listed_if t p ≡ Some o → (t ≡ true) × (p ≡ o)
 if_listed true p o e = (refl, cc)
 if_listed false p o e = (cc, cc)
 

@@ -18,7 +18,7 @@ use Rattle.endings.specs.declared.ending.Ending.TheVariants.{Done, Spent, Trap, 
 use Rattle.engine.specs.declared.outcome.Outcome.{Outcome}
 use Rattle.text.specs.Text.{number_text, signed_text, word_text}
 use Rattle.report.specs.Line.{slot_fields, sum_fields, control_fields, state_fields, ending_text, run_fields, run_line, long_run_line, decoded_run_line, tally_sums, tally_line}
-use Rattle.report.specs.Line.{step_text, step_line, filled_line, combined_fields, combined_line, notice_line, service_text, bag_fields}
+use Rattle.report.specs.Line.{step_text, step_line, filled_line, combined_fields, combined_line, combined_line_of, notice_line, service_text, service_text_of, bag_fields}
 use Rattle.report.specs.declared.notice.Notice.TheVariants.{Short, TooLarge, Unknown}
 use Rattle.report.specs.declared.verb.Verb.TheVariants.{Loaded, Wrote, Joined}
 
@@ -217,6 +217,18 @@ not_combined : combined_line (Err Boards) ≡ 114 ∷ 101 ∷ 102 ∷ 117 ∷ 11
 unfolding combined_line ending_text name_of decimal_of
 not_combined = refl
 
+-- the same by the number of a refusal, and one that is no number of the table: `refused13\n`, `refused12\n`
+not_combined_of :
+    (combined_line_of (Err 13) ≡ 114 ∷ 101 ∷ 102 ∷ 117 ∷ 115 ∷ 101 ∷ 100 ∷ 49 ∷ 51 ∷ 10 ∷ [])
+    × (combined_line_of (Err 12) ≡ 114 ∷ 101 ∷ 102 ∷ 117 ∷ 115 ∷ 101 ∷ 100 ∷ 49 ∷ 50 ∷ 10 ∷ [])
+unfolding combined_line_of ending_text name_of decimal_of
+not_combined_of = (refl, refl)
+
+-- the sum: `combined -5 0 1\n`
+combined_of : combined_line_of (Ok total) ≡ 99 ∷ 111 ∷ 109 ∷ 98 ∷ 105 ∷ 110 ∷ 101 ∷ 100 ∷ 32 ∷ 45 ∷ 53 ∷ 32 ∷ 48 ∷ 32 ∷ 49 ∷ 10 ∷ []
+unfolding combined_line_of combined_fields number_text signed_text
+combined_of = refl
+
 -- ---- cases without an answer
 
 -- `short\n`, `toolarge\n`, `unknown\n`
@@ -244,6 +256,22 @@ not_served : service_text {A = State} (Err Settings) standing words (0 ∷ 16 �
     ++ (32 ∷ 49 ∷ 54 ∷ 32 ∷ 51 ∷ [])
 unfolding service_text ending_text name_of decimal_of state_fields sum_fields control_fields slot_fields state_status status_of number_text signed_text word_text
 not_served = refl
+
+-- by the number 0: `served .. 16 3`
+served_of : service_text_of 0 standing words (0 ∷ 16 ∷ []) (3 ∷ [])
+    ≡ (115 ∷ 101 ∷ 114 ∷ 118 ∷ 101 ∷ 100 ∷ [])
+    ++ standing_fields
+    ++ (32 ∷ 49 ∷ 54 ∷ 32 ∷ 51 ∷ [])
+unfolding service_text_of ending_text name_of decimal_of state_fields sum_fields control_fields slot_fields state_status status_of number_text signed_text word_text
+served_of = refl
+
+-- by the number 6: `refused6 .. 16 3`
+not_served_of : service_text_of 6 standing words (0 ∷ 16 ∷ []) (3 ∷ [])
+    ≡ (114 ∷ 101 ∷ 102 ∷ 117 ∷ 115 ∷ 101 ∷ 100 ∷ 54 ∷ [])
+    ++ standing_fields
+    ++ (32 ∷ 49 ∷ 54 ∷ 32 ∷ 51 ∷ [])
+unfolding service_text_of ending_text name_of decimal_of state_fields sum_fields control_fields slot_fields state_status status_of number_text signed_text word_text
+not_served_of = refl
 
 -- a bag that trapped with 5: ` 0025 817`
 bag_trapped : bag_fields 0x25 817 ≡ 32 ∷ 48 ∷ 48 ∷ 50 ∷ 53 ∷ 32 ∷ 56 ∷ 49 ∷ 55 ∷ []

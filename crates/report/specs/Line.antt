@@ -133,6 +133,10 @@ abbrev pub unless_refused : {A : Type 0} → Result A Refusal → List ℕ → L
 unless_refused (Ok x) text = text
 unless_refused (Err r) text = ending_text (Refused (refusal_number r))
 
+-- a text, or the refusal where its number is not 0
+abbrev pub unless_numbered : ℕ → List ℕ → List ℕ
+unless_numbered n text = cond (eqb n 0) text (ending_text (Refused n))
+
 -- the verb and the bytes written, or the refusal and 0; the slice's check
 unfoldable pub filled_line : Verb → Result ℕ Refusal → List ℕ → List ℕ
 filled_line v answer slice =
@@ -152,6 +156,11 @@ combined_fields a =
 unfoldable pub combined_line : Result Accumulator Refusal → List ℕ
 combined_line (Ok a) = combined_fields a ++ line_end
 combined_line (Err r) = ending_text (Refused (refusal_number r)) ++ line_end
+
+-- the sum or the refusal of this number
+unfoldable pub combined_line_of : Result Accumulator ℕ → List ℕ
+combined_line_of (Ok a) = combined_fields a ++ line_end
+combined_line_of (Err n) = ending_text (Refused n) ++ line_end
 
 -- ---- cases without an answer
 
@@ -174,6 +183,11 @@ served_text = 115 ∷ 101 ∷ 114 ∷ 118 ∷ 101 ∷ 100 ∷ []
 unfoldable pub service_text : {A : Type 0} → Result A Refusal → State → List ℕ → List ℕ → List ℕ → List ℕ
 service_text answer s memory endings steps =
     unless_refused answer served_text ++ state_fields s memory ++ check_field endings ++ check_field steps
+
+-- the same of a refusal's number, 0 where it was served
+unfoldable pub service_text_of : ℕ → State → List ℕ → List ℕ → List ℕ → List ℕ
+service_text_of refusal s memory endings steps =
+    unless_numbered refusal served_text ++ state_fields s memory ++ check_field endings ++ check_field steps
 
 -- a bag: its ending's code in hexadecimal, its steps
 unfoldable pub bag_fields : ℕ → ℕ → List ℕ

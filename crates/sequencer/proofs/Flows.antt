@@ -55,7 +55,7 @@ module _ (p : List Operation) (before after : ActiveLoops) where
             (eq-or-lt_of_le l));
       }
 
-  lasts_ended : (depth : ℕ) → after.starts ≡ set before.starts (depth - 1) 0 → after.lasts ≡ before.lasts → Lasts p before depth → Lasts p after (depth - 1)
+  pub lasts_ended : (depth : ℕ) → after.starts ≡ set before.starts (depth - 1) 0 → after.lasts ≡ before.lasts → Lasts p before depth → Lasts p after (depth - 1)
   lasts_ended depth starts lasts kept =
       record { each = λ i l. rw (starts, lasts) (kept.each i (omega arith) ∙ sym (last_other p before.starts i (depth - 1) 0 l)) }
 
@@ -90,13 +90,18 @@ module _ (p : List Operation) (f : Flow) (before after : ActiveLoops) (kept : La
       let none : more - 1 ≤ 0 = omega arith in
       record { core = λ w acc oflags. rw (starts, passes, e, le-ltb 0 (more - 1) none); lasts = rw e (lasts_ended p before after f.depth starts lasts kept) }
 
+-- another repetition reads no slot
+pub repeats_any : (p : List Operation) (f : Flow) (starts passes : List ℕ) (r : Flow) → 1 < f.repeat → r ≡ record { pc = f.pc; depth = f.depth; repeat = f.repeat - 1; mode = f.mode }
+    → (w : List ℕ) (acc : List ℤ) (oflags : List Bool) → lent_core w acc oflags starts passes r ≡ advanced p (lent_core w acc oflags starts passes f)
+unfolding advanced
+repeats_any p f starts passes r l e w acc oflags = rw (e, lt-ltb 1 f.repeat l)
+
 module _ (p : List Operation) (f : Flow) (loops : ActiveLoops) (kept : Lasts p loops f.depth) where
   -- ---- the next operation
 
   pub repeats : (r : Flow) → 1 < f.repeat → r ≡ record { pc = f.pc; depth = f.depth; repeat = f.repeat - 1; mode = f.mode }
       → Moves p (advanced p) f loops loops r
-  unfolding advanced
-  repeats r l e = record { core = λ w acc oflags. rw (e, lt-ltb 1 f.repeat l); lasts = rw e kept }
+  repeats r l e = record { core = repeats_any p f loops.starts loops.passes r l e; lasts = rw e kept }
 
   abbrev inner_end : ℕ
   inner_end = last_of (role_at p (get_or loops.starts (f.depth - 1) 0))

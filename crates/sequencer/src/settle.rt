@@ -67,7 +67,7 @@ impl Sums {
     }
 
     // The same of a result beyond 32 bits. Within the limits it is kept as it is, which is worth a way of its own: sums of a loop are often there.
-    fn exceed(&mut self, traps: u16, word: u16, t: usize, r: i64) -> Option<Trap>
+    fn exceed_in(&mut self, traps: u16, word: u16, t: usize, r: i64) -> Option<Trap>
         requires t_bound { t < 2 }
         requires r_value { overflows r ≡ true }
         ensures { Settles traps word t r self.old self.new result }
@@ -79,6 +79,19 @@ impl Sums {
         self.values[t] = r;
         self.overflow[t] = true;
         overflow_trap(traps, target)
+    }
+
+    // The same, for A and B by a call each: a test of a word is then one of a bit that is known.
+    fn exceed(&mut self, traps: u16, word: u16, t: usize, r: i64) -> Option<Trap>
+        requires t_bound { t < 2 }
+        requires r_value { overflows r ≡ true }
+        ensures { Settles traps word t r self.old self.new result }
+    {
+        if t == 0 {
+            self.exceed_in(traps, word, 0, r)
+        } else {
+            self.exceed_in(traps, word, 1, r)
+        }
     }
 
     // The same of any result. Within 32 bits nothing is limited and there is no trap.

@@ -9,6 +9,7 @@ use Rattle.machine.specs.Step.{Step, stepped}
 use Rattle.sequencer.specs.Lent.{lent_state}
 use Rattle.sequencer.specs.Standing.{Lasts}
 use Rattle.sequencer.specs.declared.flow.Flow.{Flow}
+use Rattle.sequencer.specs.declared.sums.Sums.{Sums}
 use Rattle.stepping.specs.declared.registers.Registers.{Registers}
 use Rattle.stepping.specs.declared.step.Turn.{Turn}
 
@@ -48,6 +49,10 @@ ends_leg (Err trap) = false
 -- the step that leaves what is held
 abbrev pub turn_in : Held → Flow → Result Turn Trap → Step
 turn_in h f r = record { state = state_held h.registers (flow_after f r); memory = h.memory; trap = turn_trap r; counted = is_made r }
+
+-- the same of registers, accumulators and any slots of loops
+abbrev pub step_in : List ℕ → Sums → List ℕ → List ℕ → List ℕ → Flow → Result Turn Trap → Step
+step_in w s starts passes memory f r = record { state = lent_state w s.values s.overflow s.saturation starts passes (flow_after f r); memory = memory; trap = turn_trap r; counted = is_made r }
 
 -- the operation at pc of p is executed: what is held becomes `after`; the mode word is set in an ending turn alone
 pub record Turns (p : List Operation) (settings : Settings) (f : Flow) (before after : Held) (r : Result Turn Trap) : Type 0 where

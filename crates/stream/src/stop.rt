@@ -7,7 +7,7 @@ use input::Unfilled;
 use lines::line::notice_line;
 use report::notice::Notice;
 use std::io;
-use std::io::Stdout;
+use std::io::Write;
 
 // Why no further case is answered.
 #[derive(Debug, Drop)]
@@ -49,14 +49,16 @@ impl From<Unfilled> for Stop {
 
 impl Stop {
     // The stream's last line, if it has one, or the error.
-    pub fn tell(self, stdout: Stdout) -> io::Result<()>
+    pub fn tell<W: Write>(self, mut output: W) -> io::Result<()>
+    where
+        W: Drop,
         ensures ended { self ≡ Ended → IsOk result }
         ensures failed { IsFailed self → IsErr result }
         ensures error { IsFailed self → IfErr result (λ e. self ≡ Failed e) }
     {
         match self {
             Stop::Ended => Ok(()),
-            Stop::Told(notice) => stdout.write_all(notice_line(notice).as_bytes()),
+            Stop::Told(notice) => output.write_all(notice_line(notice).as_bytes()),
             Stop::Failed(error) => Err(error),
         }
     }

@@ -6,8 +6,8 @@ use crate::item::Item;
 use arrayvec::ArrayVec;
 use std::marker::Model;
 
-// The most bytes of a line. The longest is that of a run in the long form, with 20 digits for each number 619 bytes: 9 of the ending, 21 of the steps, 376
-// of the state and the memory's check, 2 of the set, 21 of the registers' check, 189 of the task counts, 1 of the line's end.
+// The most bytes of a line. The longest is that of a run over decoded operations, with 20 digits for each number 640 bytes: 9 of the ending, 21 of the
+// steps, 376 of the state and the memory's check, 2 of the set, 21 of the registers' check, 189 of the task counts, 21 of the slice's check, 1 of the line's end.
 pub const LINE: usize = 640;
 
 // The bytes that stand on a line.

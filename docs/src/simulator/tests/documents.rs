@@ -48,7 +48,7 @@ fn asks(lines: &[&str]) -> bool {
         if line.starts_with("requires") {
             return true;
         }
-        if line.ends_with('{') && !line.starts_with("ensures") {
+        if (line.ends_with('{') && !line.starts_with("ensures")) || line.ends_with(';') {
             return false;
         }
     }
@@ -69,13 +69,18 @@ fn bare(head: &str) -> String {
     head.chars().filter_map(outside).collect()
 }
 
-/// The public functions of a source file that ask something: `NAME`, or `TYPE::NAME` in an `impl`.
+/// The public functions of a source file that ask something: `NAME`, or `TYPE::NAME` in an `impl` and `TRAIT::NAME` in a public trait.
 fn asking(source: &str) -> Vec<String> {
     let lines: Vec<&str> = source.lines().collect();
     let mut found = Vec::new();
     let mut of = String::new();
+    let mut public = "pub fn ";
     for (i, line) in lines.iter().enumerate() {
-        if line.starts_with("impl") {
+        if let Some(name) = line.strip_prefix("pub trait ") {
+            let words = |c: char| !c.is_alphanumeric() && c != '_';
+            of = name.split(words).next().unwrap().to_string() + "::";
+            public = "fn ";
+        } else if line.starts_with("impl") {
             of = bare(&line["impl".len()..])
                 .trim_end_matches('{')
                 .trim()
@@ -83,8 +88,9 @@ fn asking(source: &str) -> Vec<String> {
                 + "::";
         } else if *line == "}" {
             of.clear();
+            public = "pub fn ";
         }
-        if let Some(head) = line.trim().strip_prefix("pub fn ") {
+        if let Some(head) = line.trim().strip_prefix(public) {
             if asks(&lines[i..]) {
                 found.push(of.clone() + bare(head).split('(').next().unwrap());
             }
@@ -215,16 +221,40 @@ fn is_code(cell: &str) -> bool {
         return false;
     };
     let text = text(&format!("crates/{krate}/src/{file}.rt"));
-    let words: Vec<&str> = text
-        .split(|c: char| !c.is_alphanumeric() && c != '_')
-        .collect();
-    let declared = |name: &&str| {
-        let marks = ["fn", "struct", "enum", "const", "impl"];
-        words
+    match names {
+        [name] => stands(&text, name, |line| !line.starts_with(' ')),
+        [of, name] => {
+            let mut inside = false;
+            stands(&text, name, |line| {
+                if !line.starts_with(' ') {
+                    let marks = ["impl", "struct", "enum", "trait"];
+                    let has = |word: &&str| words(line).contains(word);
+                    let opens = marks.iter().any(has) && has(of) && line.ends_with('{');
+                    inside = opens || (inside && line != "}");
+                }
+                inside
+            })
+        }
+        _ => false,
+    }
+}
+
+/// The words of a line of code.
+fn words(line: &str) -> Vec<&str> {
+    line.split(|c: char| !c.is_alphanumeric() && c != '_')
+        .filter(|word| !word.is_empty())
+        .collect()
+}
+
+/// Whether a line that `counts` declares the name.
+fn stands(text: &str, name: &str, mut counts: impl FnMut(&str) -> bool) -> bool {
+    let marks = ["fn", "struct", "enum", "const"];
+    let declares = |line: &str| {
+        words(line)
             .windows(2)
-            .any(|two| marks.contains(&two[0]) && two[1] == *name)
+            .any(|two| marks.contains(&two[0]) && two[1] == name)
     };
-    !names.is_empty() && names.iter().all(declared)
+    text.lines().filter(|line| counts(line)).any(declares)
 }
 
 /// Whether a must-fail edit, a law or worked example, a test of the simulator or a file stands there.

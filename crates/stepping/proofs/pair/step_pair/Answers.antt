@@ -9,7 +9,7 @@ use Rattle.operations.specs.Decode.{target_of}
 use Rattle.form.specs.Words.{field, coded_at}
 use Rattle.products.proofs.Pairs.{pair_fields}
 use Rattle.sequencer.specs.Lent.{lent_core}
-use Rattle.sequencer.proofs.Flows.{repeats}
+use Rattle.sequencer.proofs.Flows.{repeats, repeats_any}
 use Rattle.stepping.proofs.Works.{onward_kind, step_trapped, step_done, trap_some}
 use borrow.Author.Rules.{rules}
 use Rattle.stepping.proofs.pair.step_pair.Goals as goal
@@ -30,6 +30,18 @@ returns-in_err-r-clause-turns c =
       lasts = follows.lasts;
       mode = λ z. refl;
     })
+
+pub returns-in_err-r-clause-any_loops : goal.returns-in_err-r-clause-any_loops
+returns-in_err-r-clause-any_loops c =
+    let a = c.args in
+    let s = a.sums.now in
+    let error = c.in_err-r.field-0.0 in
+    let gives = err_from_is_err_and c.from_residual.result c.from_residual.ensures.1 in
+    rw (gives.1, gives.2)
+    (λ p starts passes here.
+    step_trapped a.settings p (coded_at a.coded.code.now a.coded.at) a.f s.values s.overflow s.saturation a.w.now starts passes a.memory.now here
+    (target_of (field a.coded.code.now a.coded.at 1)) c.pair.new.w a.memory.now (Err error)
+    (c.in_err-r.ensures (lent_core a.w.now s.values s.overflow starts passes a.f)) (trap_some _))
 
 pub target-requires : goal.target-requires
 target-requires c = let pair = pair_fields c.args.coded.code.now c.args.coded.at c.requires.at_value in omega (arith, pair.kind)
@@ -61,3 +73,22 @@ returns-clause-turns c =
       lasts = moves.lasts;
       mode = λ z. rw c.at-flow.ensures;
     }
+
+pub returns-clause-any_loops : goal.returns-clause-any_loops
+returns-clause-any_loops c =
+    let a = c.args in
+    let s = a.sums.now in
+    let settled = c.settle-trap in
+    let w = c.pair.new.w in
+    let sums = settled.new.self in
+    let same : to_z w64 (of_z w64 c.in_ok-r.r) ≡ c.in_ok-r.r = search rules in
+    let pair = pair_fields a.coded.code.now a.coded.at c.requires.at_value in
+    λ p starts passes here.
+    let written = rw (same, c.target.ensures.value) at (settled.ensures w starts passes a.f) in
+    step_done a.settings p (coded_at a.coded.code.now a.coded.at) a.f s.values s.overflow s.saturation a.w.now starts passes a.memory.now here
+    (target_of (field a.coded.code.now a.coded.at 1)) w a.memory.now (Ok (Some c.in_ok-r.r))
+    (c.in_ok-r.ensures (lent_core a.w.now s.values s.overflow starts passes a.f))
+    sums.values sums.overflow sums.saturation starts passes c.at-flow.result _ refl
+    (onward_kind a.coded.code.now a.coded.at (omega (arith, pair.kind)))
+    written
+    (repeats_any p a.f starts passes c.at-flow.result c.requires.lt_repeat c.at-flow.ensures w sums.values sums.overflow)

@@ -1,4 +1,4 @@
--- `Sums::exceed` meets its contract: within the limits, or not. Assumes nothing.
+-- `Sums::exceed_in` meets its contract: within the limits, or not. Assumes nothing.
 use mathlib.Core.Bool.{false}
 use mathlib.Core.Path.{◌≡◌, sym, ◌∙◌}
 use mir.Facts.{to_z-of_z}
@@ -7,8 +7,8 @@ use Rattle.accumulator.specs.Limit.{has_left}
 use Rattle.accumulator.specs.Mode.{mode_of}
 use Rattle.operations.specs.Decode.{target_of}
 use Rattle.sequencer.proofs.Settles.{Twos, settles_beyond}
-use Rattle.sequencer.proofs.sums.Sums.exceed.Goals as goal
-use Rattle.sequencer.proofs.sums.Sums.exceed.Goals.{Start, Else-left}
+use Rattle.sequencer.proofs.sums.Sums.exceed_in.Goals as goal
+use Rattle.sequencer.proofs.sums.Sums.exceed_in.Goals.{Start, Else-left}
 
 twos : (c : Start) → Twos c.args.self.now
 twos c = record { values = search rules; overflows = search rules; saturations = search rules }
